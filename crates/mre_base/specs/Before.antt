@@ -8,6 +8,10 @@ use Rattle.std.specs.FinSet as set
 abbrev pub numbers : ℕ → set.FinSet nat_cmp → List ℕ
 numbers d told = filter (set.contains told) (range_with_len 1 d)
 
+-- how many of the numbers that a difference may have, 1 to 256, are in a set
+unfoldable pub count_of : set.FinSet nat_cmp → ℕ
+count_of told = length (numbers 256 told)
+
 -- the sum of the weights of some differences; the weights are listed from difference 1 on
 abbrev pub weight : List ℕ → List ℕ → ℕ
 weight weights ks = sum_by (λ k. slice_index weights (k - 1)) ks

@@ -1,3 +1,6 @@
 pub mod Before
 pub mod Lending
+pub mod SameSets
+pub mod Sets
+pub mod Words
 pub mod formers
