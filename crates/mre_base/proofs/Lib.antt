@@ -1,6 +1,8 @@
+pub mod BitWords
 pub mod ListBefore
 pub mod ListOrder
 pub mod PlaceWords
+pub mod SameNodes
 pub mod SetsBelow
 pub mod WordBits
 pub mod WordCounts

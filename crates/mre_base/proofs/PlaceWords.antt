@@ -70,7 +70,7 @@ places_in-take_out old new (suc i) l h = set_below-take_out (has_place old) (has
     each zero = rw (ne_eqb 0 (suc i) (λ e. absurd (omega arith))) refl
     each (suc k) = h k ∙ ap (λ b. not b && has_bit old k) (one_less k i)
 
-same_answer : (a b : Bool) → (a ≡ true → b ≡ true) → (b ≡ true → a ≡ true) → a ≡ b
+pub same_answer : (a b : Bool) → (a ≡ true → b ≡ true) → (b ≡ true → a ≡ true) → a ≡ b
 same_answer true b f g = sym (f refl)
 same_answer false true f g = g refl
 same_answer false false f g = refl

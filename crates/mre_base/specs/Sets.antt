@@ -1,5 +1,6 @@
 -- Finite sets of numbers: those below a bound that pass a test, a set's numbers in ascending order, and when two sets are one.
-use Rattle.std.specs.Prelude.{ℕ, zero, suc, ◌<◌, ◌≤◌, Bool, ◌&&◌, IsTrue, nat_eq, if◌then◌else◌, List, filter}
+use Rattle.std.specs.Prelude.{ℕ, zero, suc, ◌<◌, ◌≤◌, Bool, ◌&&◌, IsTrue, nat_eq, if◌then◌else◌, List, filter, refl}
+use Rattle.std.specs.Coded.{Coded, code_by, coded×, coded_ℕ}
 use Rattle.std.specs.List.{range_with_len}
 use Rattle.std.specs.Ordering.{nat_cmp}
 use Rattle.std.specs.FinSet as set
@@ -25,6 +26,11 @@ ArePlaces members = (place : ℕ) → IsTrue (set.contains members place) → (1
 pub record BitSet : Type 0 where
   pub width : ℕ
   pub members : set.FinSet nat_cmp
+
+-- a bit set is stored as the pair of its parts
+abbrev pub bit_set_code : Coded BitSet
+bit_set_code =
+    code_by (ℕ × set.FinSet nat_cmp) (coded× coded_ℕ (set.code coded_ℕ)) (λ bits. (bits.width, bits.members)) (λ pair. record { width = pair.0; members = pair.1 }) (λ _. refl)
 
 -- each member is below the width
 abbrev pub AreBelow : BitSet → Type 0

@@ -1,9 +1,10 @@
 -- Sets of numbers as the bits of words of 64 bits: bit k stands in word k / 64, at place k % 64 from the lowest.
-use Rattle.std.specs.Prelude.{ℕ, zero, suc, ◌+◌, ◌*◌, ◌/◌, ◌%◌, ◌^◌, ◌<◌, Bool, false, List, [], ◌∷◌, slice_index, nat_eq, if◌then◌else◌}
+use Rattle.std.specs.Prelude.{◌≡◌, ◌≤◌, ◌++◌, length, ℕ, zero, suc, ◌+◌, ◌*◌, ◌/◌, ◌%◌, ◌^◌, ◌<◌, Bool, false, List, [], ◌∷◌, slice_index, nat_eq, if◌then◌else◌}
 use Rattle.std.specs.Int.{bit_at}
 use Rattle.std.specs.Ordering.{nat_cmp}
 use Rattle.std.specs.FinSet as set
-use Rattle.mre_base.specs.Sets.{set_below}
+use Rattle.std.specs.Hash as fed
+use Rattle.mre_base.specs.Sets.{set_below, BitSet}
 
 -- bit k is set
 abbrev pub has_bit : List ℕ → ℕ → Bool
@@ -39,3 +40,13 @@ words_for width = (width + 63) / 64
 -- each word has 64 bits
 abbrev pub AreWords : List ℕ → Type 0
 AreWords words = (i : ℕ) → slice_index words i < 2 ^ 64
+
+-- the words are as many as a width needs, and no bit from the width on is set
+pub record HoldBits (width : ℕ) (words : List ℕ) : Type 0 where
+  pub long : length words ≡ words_for width
+  pub clear : (k : ℕ) → width ≤ k → has_bit words k ≡ false
+  pub fits : width < 2 ^ 32
+
+-- what a hash of a bit set reads: its width and its words
+abbrev pub hash_of_bits : BitSet → List (List ℕ)
+hash_of_bits bits = fed.u32 bits.width ++ fed.slice fed.u64 (words_from (set.contains bits.members) 0 (words_for bits.width))

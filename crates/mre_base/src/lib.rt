@@ -1,15 +1,25 @@
 //! The sets, lists, texts and logs that every crate of the explainer stands on.
 #![tactic(auto)]
 
+mod bits;
 mod kind;
 mod list;
 mod no_memory;
+mod node;
+mod node_log;
 mod places;
+mod steps;
+#[cfg(test)]
+mod tests;
 mod text;
 mod words;
 
+pub use bits::Bits;
 pub use kind::{Kind, Side};
 pub use list::List;
 pub use no_memory::NoMemory;
+pub use node::Node;
+pub use node_log::{NodeLog, PushStop};
 pub use places::{MOST_PLACES, Places};
+pub use steps::Steps;
 pub use text::Text;

@@ -5,6 +5,7 @@ ghost use Rattle.mre_base.specs.Before.{is_earlier_list};
 ghost use Rattle.std.specs.Hash as fed;
 ghost use Rattle.mre_base.specs.Words.{has_bit, AreWords};
 
+use smallvec::SmallVec;
 use std::hash::{Hash, Hasher};
 
 /// Whether bit `i` is set.
@@ -31,6 +32,32 @@ pub fn take_out(words: &mut [u64], i: u32)
 {
     let word = (i / 64) as usize;
     words[word] = words[word] & !(1 << (i % 64));
+}
+
+/// The same as `put` for words that may lie in the value or apart from it.
+pub fn put_in(words: &mut SmallVec<u64, 2>, i: u32)
+    requires { i < 64 * length words.old.items }
+    ensures bits { (k : ℕ) → has_bit words.new.items k ≡ (nat_eq k i || has_bit words.old.items k) }
+    ensures long { length words.new.items ≡ length words.old.items }
+{
+    put(words.as_mut_slice(), i);
+}
+
+/// The same as `take_out` for such words.
+pub fn take_out_of(words: &mut SmallVec<u64, 2>, i: u32)
+    requires { i < 64 * length words.old.items }
+    ensures bits { (k : ℕ) → has_bit words.new.items k ≡ (not (nat_eq k i) && has_bit words.old.items k) }
+    ensures long { length words.new.items ≡ length words.old.items }
+{
+    take_out(words.as_mut_slice(), i);
+}
+
+/// Makes the words those of another set of the same width.
+pub fn copy(words: &mut SmallVec<u64, 2>, from: &[u64])
+    requires { length words.old.items ≡ length from.now }
+    ensures { words.new.items ≡ from.now }
+{
+    words.as_mut_slice().copy_from_slice(from);
 }
 
 /// Whether the words are the same.
