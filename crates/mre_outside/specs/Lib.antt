@@ -1,0 +1,9 @@
+pub mod Faults
+pub mod Failing
+pub mod Sinks
+pub mod MemorySinks
+pub mod Streams
+pub mod Adapters
+pub mod Shelves
+pub mod MemoryShelves
+pub mod Kept

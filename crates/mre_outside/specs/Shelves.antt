@@ -1,0 +1,54 @@
+-- What a shelf holds and was asked, and what a call does to it.
+use Rattle.std.specs.Prelude.{◌≡◌, ◌≢◌, ℕ, true, false, List, [], ◌∷◌, take, Option, None, Some, Result, Ok, Err, ◌⊎◌, ⊤}
+use Rattle.std.specs.Ordering.{nat_cmp}
+use Rattle.std.specs.Cmp.Lexicographic.{slice_cmp}
+use Rattle.std.specs.FinMap as map
+use Rattle.std.specs.Coded.{Coded, coded_ℕ, coded_list}
+use Rattle.mre_outside.specs.declared.shelf.Act.TheVariants.{Read, Put}
+use Rattle.mre_outside.specs.declared.shelf.ShelfCall.{ShelfCall}
+use Rattle.mre_outside.specs.declared.shelf.ShelfStop.{ShelfStop}
+use Rattle.mre_outside.specs.declared.shelf.ShelfStop.TheVariants as read_stop
+use Rattle.mre_outside.specs.declared.shelf.PutStop.{PutStop}
+use Rattle.mre_outside.specs.declared.shelf.PutStop.TheVariants as put_stop
+
+-- the bytes under each name
+abbrev pub Files : Type 0
+Files = map.FinMap (slice_cmp nat_cmp) (List ℕ)
+
+-- the bytes of the first entry of this name
+abbrev pub first_under : List (List ℕ × List ℕ) → List ℕ → Option (List ℕ)
+first_under entries name = map.find (slice_cmp nat_cmp) name entries
+
+-- files are told apart by their entries
+abbrev pub files_code : Coded Files
+files_code = map.code (coded_list coded_ℕ) (coded_list coded_ℕ)
+
+-- the entry of a read that was answered so; there is none where it was refused memory
+abbrev pub read_entry : {T : Type 0} → List ℕ → Result T ShelfStop → List ShelfCall
+read_entry name (Ok _) = record { name = name; act = Read; failed = false } ∷ []
+read_entry name (Err read_stop.Failed) = record { name = name; act = Read; failed = true } ∷ []
+read_entry name (Err read_stop.TooLong) = record { name = name; act = Read; failed = false } ∷ []
+read_entry name (Err read_stop.NoMemory) = []
+
+-- the entry of a put that was answered so; there is none where it was refused memory
+abbrev pub put_entry : {T : Type 0} → List ℕ → Result T PutStop → List ShelfCall
+put_entry name (Ok _) = record { name = name; act = Put; failed = false } ∷ []
+put_entry name (Err put_stop.Failed) = record { name = name; act = Put; failed = true } ∷ []
+put_entry name (Err put_stop.NoMemory) = []
+
+-- both are told or neither is, and what is told stands in this relation
+abbrev pub BothTold : {A : Type 0} → Option A → Option A → (A → A → Type 0) → Type 0
+BothTold None None P = ⊤
+BothTold None (Some new) P = ⊥
+BothTold (Some old) None P = ⊥
+BothTold (Some old) (Some new) P = P old new
+
+-- what a refused put leaves: all as it was, or nothing under the name, or a prefix of the bytes
+abbrev pub LeavesPart : List ℕ → List ℕ → Files → Files → Type 0
+LeavesPart name bytes old new =
+    (new ≡ old) ⊎ ((new ≡ map.remove old name)
+    ⊎ ((count : ℕ) × (new ≡ map.insert old name (take count bytes))))
+
+-- what stands under every other name stays
+abbrev pub KeepsOthers : List ℕ → Files → Files → Type 0
+KeepsOthers name old new = (other : List ℕ) → other ≢ name → map.get new other ≡ map.get old other

@@ -1,0 +1,7 @@
+-- What a call does to the bytes that a sink tells. Bytes that it tells it goes on telling.
+use Rattle.std.specs.Prelude.{ℕ, List, take, Option}
+use Rattle.std.specs.Io.KnownBytes.{Appends}
+
+-- a prefix of the bytes was appended
+abbrev pub AppendsPrefix : Option (List ℕ) → Option (List ℕ) → List ℕ → Type 0
+AppendsPrefix old new bytes = (count : ℕ) × Appends old new (take count bytes)

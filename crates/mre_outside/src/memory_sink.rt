@@ -1,0 +1,102 @@
+ghost use Rattle.std.specs.Prelude.{◌≡◌};
+
+use crate::{FailingCalls, Sink, SinkStop, SoundSink};
+use mre_base::List;
+use std::alloc::Global;
+use std::marker::Model;
+
+/// A sink in memory, of which chosen writes fail. A write that fails takes the first half of its
+/// bytes, rounded down. The writes that are not refused memory count from 1.
+#[derive(Debug, Drop)]
+pub struct MemorySink {
+    taken: SoundSink,
+    writes: u64,
+    faults: u64,
+    failing: FailingCalls,
+}
+
+impl Model for MemorySink {
+    ghost use Rattle.mre_outside.specs.MemorySinks.{SinkInMemory};
+
+    ghost Value = { SinkInMemory };
+
+    ghost view = { λ sink. record {
+      written = sink.taken;
+      writes = sink.writes;
+      faults = sink.faults;
+      failing = sink.failing;
+    } };
+}
+
+impl MemorySink {
+    ghost use Rattle.mre_outside.specs.MemorySinks.{made_empty};
+    ghost use Rattle.mre_outside.specs.declared.failing.FailingCalls.TheVariants.{Listed, From};
+
+    /// A sink without bytes. The writes with these numbers will fail.
+    pub fn new(alloc: Global, failing: List<u32>) -> MemorySink
+        ensures { result ≡ made_empty (Listed failing) }
+    {
+        MemorySink::with_failing(alloc, FailingCalls::Listed(failing))
+    }
+
+    /// A sink without bytes. The write with this number and each later one will fail.
+    pub fn stopping(alloc: Global, from: u32) -> MemorySink
+        ensures { result ≡ made_empty (From from) }
+    {
+        MemorySink::with_failing(alloc, FailingCalls::From(from))
+    }
+
+    fn with_failing(alloc: Global, failing: FailingCalls) -> MemorySink
+        ensures { result ≡ made_empty failing }
+    {
+        MemorySink {
+            taken: SoundSink::new(alloc),
+            writes: 0,
+            faults: 0,
+            failing,
+        }
+    }
+
+    /// The bytes that it holds.
+    pub fn bytes(&self) -> &[u8]
+        ensures { result.now ≡ self.now.written }
+    {
+        self.taken.bytes()
+    }
+}
+
+impl Sink for MemorySink {
+    ghost use Rattle.std.specs.Prelude.{◌≡◌, ◌≤◌, Some, OnOk, IsErrOf};
+    ghost use Rattle.mre_outside.specs.Failing.{NoneFails};
+    ghost use Rattle.mre_outside.specs.MemorySinks.{NextWriteFails, after_write, after_failure};
+
+    ghost written = { λ sink. Some sink.written };
+
+    ghost faults = { λ sink. sink.faults };
+
+    ghost is_sound = { λ sink. NoneFails sink.failing };
+
+    fn write_all(&mut self, bytes: &[u8]) -> Result<(), SinkStop>
+        ensures ok { OnOk result (self.new ≡ after_write self.old bytes.now) }
+        ensures half { IsErrOf result SinkStop.Failed
+            → self.new ≡ after_failure self.old bytes.now }
+        ensures no_memory { IsErrOf result SinkStop.NoMemory → self.new ≡ self.old }
+
+        // Of the writes that are not refused memory those fail that were chosen, and no other.
+        ensures failed { IsErrOf result SinkStop.Failed → NextWriteFails self.old }
+        ensures spared { OnOk result (¬ NextWriteFails self.old) }
+
+        ensures never_falls { self.old.faults ≤ self.new.faults }
+    {
+        let write = self.writes.saturating_add(1);
+        if self.failing.fails(write) {
+            self.taken.append(&bytes[..bytes.len() / 2])?;
+            self.writes = write;
+            self.faults = self.faults.saturating_add(1);
+            return Err(SinkStop::Failed);
+        }
+        self.taken.append(bytes)?;
+        self.writes = write;
+        Ok(())
+    }
+}
