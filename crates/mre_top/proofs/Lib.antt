@@ -1,0 +1,4 @@
+pub mod Calls
+pub mod Requested
+pub mod Statuses
+pub mod Written

@@ -1,0 +1,8 @@
+use Rattle.mre_top.specs.Refusals.{memory_line}
+use Rattle.mre_top.proofs.Written.{by_answer}
+use Rattle.mre_top.proofs.telling.tell_no_memory.Goals as goal
+
+pub returns-clause-told : goal.returns-clause-told
+returns-clause-told g c =
+    by_answer memory_line (g.E.Sink.written c.args.faults.now) (g.E.Sink.written c.write_all.new.self) c.write_all.result
+    c.write_all.ensures.ok c.write_all.ensures.part c.write_all.ensures.no_memory

@@ -1,0 +1,14 @@
+//! The top call: everything that the program does, from its words to its status.
+#![tactic(auto)]
+
+mod reading;
+mod refusal;
+mod telling;
+#[cfg(test)]
+mod tests;
+mod top;
+mod words;
+
+pub use refusal::Refusal;
+pub use top::{Answer, Outcome, explain_top};
+pub use words::{Request, WordsStop, read_words};

@@ -1,0 +1,37 @@
+ghost use Rattle.std.specs.Prelude.{◌≡◌, ℕ, take};
+ghost use Rattle.std.specs.Io.KnownBytes.{Appends};
+ghost use Rattle.mre_top.specs.Refusals.{IsOfFile, line_of, status_of, memory_line};
+ghost use Rattle.mre_top.specs.Telling.{IsTold};
+
+use crate::Refusal;
+use mre_base::{List, Text};
+use mre_outside::{Sink, SinkStop};
+use std::alloc::Global;
+
+/// Tells a refusal on the sink of faults, and gives the status that the call ends with. Where the line finds no memory
+/// that is the status of want of memory; a write that fails changes nothing of it.
+pub fn tell<E: Sink>(alloc: Global, refusal: Refusal, files: &List<Text>, faults: &mut E) -> u8
+    requires { IsOfFile files.now refusal }
+    ensures { IsTold files.now refusal result (E.written faults.old) (E.written faults.new)
+        (E.faults faults.old) (E.faults faults.new) }
+{
+    if refusal == Refusal::NoMemory {
+        return tell_no_memory(faults);
+    }
+    let Ok(line) = refusal.line(alloc, files) else {
+        return tell_no_memory(faults);
+    };
+    match faults.write_all(line.as_bytes()) {
+        Ok(()) | Err(SinkStop::Failed) => refusal.status(),
+        Err(SinkStop::NoMemory) => tell_no_memory(faults),
+    }
+}
+
+// The line of want of memory takes none.
+fn tell_no_memory<E: Sink>(faults: &mut E) -> u8
+    ensures status { result ≡ 9 }
+    ensures told { (count : ℕ) × Appends (E.written faults.old) (E.written faults.new) (take count memory_line) }
+{
+    let _ = faults.write_all(b"mre: out of memory\n");
+    9
+}
