@@ -1,0 +1,3 @@
+(define (problem morning) (:domain coffee)
+(:init (water-filled))
+(:goal (and (coffee-ready))))
