@@ -1,0 +1,16 @@
+use Rattle.pddl_text.proofs.ForestLemmas.{gives_ok, gives_fault, gives_spelled, gives_broken, gives_words, gives_spans}
+use Rattle.pddl_text.proofs.reading.read_forest.Goals as goal
+
+pub returns : goal.returns
+returns c =
+    let bytes = c.args.bytes.now in
+    let result = c.read_told.result in
+    let gives = c.read_told.ensures.exact in
+    record {
+      ok = gives_ok bytes result gives;
+      fault = gives_fault bytes result gives;
+      succeeds = gives_spelled bytes result gives;
+      refuses = gives_broken bytes result gives;
+      words = gives_words bytes result gives;
+      spans = gives_spans bytes result gives;
+    }

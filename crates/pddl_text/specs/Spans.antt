@@ -1,0 +1,26 @@
+-- Where the words of a text stand in its bytes. Positions count from 0.
+use Rattle.std.specs.Prelude.{ℕ, ◌+◌, ◌<◌, ◌≤◌, ◌≡◌, List, [], ◌∷◌, take, slice_range}
+use Rattle.std.specs.Str.{str_to_ascii_lowercase}
+use Rattle.pddl_text.specs.declared.place.Place.{Place}
+use Rattle.pddl_text.specs.Places.{past_of}
+use Rattle.pddl_text.specs.Tokens.{Token, Word, Open, Close, Stray}
+
+-- the word is the lower case of the bytes at its positions, and its place is that of the first of them
+pub record StandsAt (bytes text : List ℕ) (at : Place) (first past : ℕ) : Type 0 where
+  pub letters : text ≡ str_to_ascii_lowercase (slice_range bytes first past)
+  pub place : at ≡ past_of (take first bytes)
+
+-- a word stands in the bytes where it says
+abbrev pub StandsIn : List ℕ → Token → Type 0
+StandsIn bytes (Word text at first past) = StandsAt bytes text at first past
+StandsIn bytes (Open at) = Unit {0}
+StandsIn bytes (Close at) = Unit {0}
+StandsIn bytes (Stray at) = Unit {0}
+
+-- from the first number on and up to the second, each token takes one byte or more behind those of the tokens before it
+abbrev pub SpansAscend : ℕ → ℕ → List Token → Type 0
+SpansAscend from to [] = from ≤ to
+SpansAscend from to (Word text at first past ∷ tokens) = (from ≤ first) × (first < past) × SpansAscend past to tokens
+SpansAscend from to (Open at ∷ tokens) = SpansAscend (from + 1) to tokens
+SpansAscend from to (Close at ∷ tokens) = SpansAscend (from + 1) to tokens
+SpansAscend from to (Stray at ∷ tokens) = SpansAscend (from + 1) to tokens

@@ -1,0 +1,38 @@
+ghost use Rattle.std.specs.Prelude.{◌≡◌};
+ghost use Rattle.pddl_text.specs.Bytes.{is_word_byte, kind};
+
+/// What a byte begins where no word and no comment goes on.
+#[derive(Clone, Copy, Debug)]
+pub enum ByteKind {
+    White,
+    Semicolon,
+    Opening,
+    Closing,
+    Letter,
+    Stray,
+}
+
+/// Whether a word may have this byte.
+pub fn is_word_byte(byte: u8) -> bool
+    ensures { result ≡ is_word_byte byte }
+{
+    32 < byte && byte < 127 && !(byte == b'(' || byte == b')' || byte == b';')
+}
+
+pub fn kind_of(byte: u8) -> ByteKind
+    ensures { result ≡ kind byte }
+{
+    if byte == b' ' || byte == b'\t' || byte == b'\r' || byte == b'\n' {
+        ByteKind::White
+    } else if byte == b';' {
+        ByteKind::Semicolon
+    } else if byte == b'(' {
+        ByteKind::Opening
+    } else if byte == b')' {
+        ByteKind::Closing
+    } else if is_word_byte(byte) {
+        ByteKind::Letter
+    } else {
+        ByteKind::Stray
+    }
+}
