@@ -3,3 +3,9 @@ pub mod TokenLemmas
 pub mod TreeLemmas
 pub mod ForestLemmas
 pub mod SpanLemmas
+pub mod KeptLemmas
+pub mod RowLemmas
+pub mod LineLemmas
+pub mod StuckLemmas
+pub mod PlanLemmas
+pub mod WordLemmas

@@ -40,7 +40,7 @@ spans_ascend (word {s = s} b letters rest {tokens = tokens} all ends more) = (om
 spans_ascend (stray {s = s} {b = b} {bytes = bytes} {tokens = tokens} is more) = spans_from s (b ∷ []) bytes tokens (spans_ascend more)
 
 -- a word behind a front of the bytes
-stands : (front letters rest : List ℕ) → StandsAt (front ++ (letters ++ rest)) (str_to_ascii_lowercase letters) (past_of front) (length front) (length front + length letters)
+pub stands : (front letters rest : List ℕ) → StandsAt (front ++ (letters ++ rest)) (str_to_ascii_lowercase letters) (past_of front) (length front) (length front + length letters)
 stands front letters rest =
     let n-is : (length front + length letters) - length front ≡ length letters = omega arith in
     let part-is : slice_range (front ++ (letters ++ rest)) (length front) (length front + length letters) ≡ letters =

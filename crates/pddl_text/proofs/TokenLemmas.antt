@@ -64,7 +64,7 @@ pub after_all-append : (s : Spot) (front rest : List ℕ) → after_all s (front
 after_all-append s [] rest = refl
 after_all-append s (b ∷ front) rest = after_all-append (after s b) front rest
 
-all-append : (P : ℕ → Type 0) (xs ys : List ℕ) → AllByRecursion P xs → AllByRecursion P ys → AllByRecursion P (xs ++ ys)
+pub all-append : (P : ℕ → Type 0) (xs ys : List ℕ) → AllByRecursion P xs → AllByRecursion P ys → AllByRecursion P (xs ++ ys)
 all-append P [] ys front back = back
 all-append P (x ∷ xs) ys front back = (front.0, all-append P xs ys front.1 back)
 

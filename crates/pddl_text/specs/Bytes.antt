@@ -1,5 +1,5 @@
 -- What the bytes of a text are to its words.
-use Rattle.std.specs.Prelude.{ℕ, Bool, ◌==◌, ◌&&◌, ◌||◌, not, nat_lt, if◌then◌else◌}
+use Rattle.std.specs.Prelude.{ℕ, Bool, ◌==◌, ◌&&◌, ◌||◌, not, nat_le, nat_lt, if◌then◌else◌}
 use Rattle.pddl_text.specs.declared.bytes.ByteKind.{ByteKind}
 use Rattle.pddl_text.specs.declared.bytes.ByteKind.TheVariants.{White, Semicolon, Opening, Closing, Letter, Stray}
 
@@ -14,6 +14,18 @@ is_word_byte b = nat_lt 32 b && nat_lt b 127 && not (b == 40 || b == 41 || b == 
 -- none of white space, `;`, parentheses and word bytes
 abbrev pub is_stray : ℕ → Bool
 is_stray b = not (is_white b || b == 59 || b == 40 || b == 41 || is_word_byte b)
+
+-- space, tab and carriage return, which are dropped at both ends of a plan's line
+abbrev pub is_blank : ℕ → Bool
+is_blank b = b == 32 || b == 9 || b == 13
+
+-- space and tab, which may stand inside a plan's line
+abbrev pub is_space : ℕ → Bool
+is_space b = b == 32 || b == 9
+
+-- a letter, a digit or `_`
+abbrev pub is_name_start : ℕ → Bool
+is_name_start b = nat_le 65 b && nat_le b 90 || nat_le 97 b && nat_le b 122 || nat_le 48 b && nat_le b 57 || b == 95
 
 -- what a byte begins where no word and no comment goes on
 abbrev pub kind : ℕ → ByteKind

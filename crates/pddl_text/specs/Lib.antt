@@ -3,6 +3,8 @@ pub mod Bytes
 pub mod Faults
 pub mod Forests
 pub mod Places
+pub mod PlanReading
+pub mod Plans
 pub mod Reading
 pub mod Spans
 pub mod Tokens

@@ -1,7 +1,10 @@
 -- Where the words of a text stand in its bytes. Positions count from 0.
-use Rattle.std.specs.Prelude.{ℕ, ◌+◌, ◌<◌, ◌≤◌, ◌≡◌, List, [], ◌∷◌, take, slice_range}
+use Rattle.std.specs.Prelude.{ℕ, ◌+◌, ◌<◌, ◌≤◌, ◌≡◌, List, [], ◌∷◌, length, take, slice_range}
+use Rattle.std.specs.List.{flat_map}
 use Rattle.std.specs.Str.{str_to_ascii_lowercase}
+use Rattle.mre_base.specs.declared.text.Text.{Text}
 use Rattle.pddl_text.specs.declared.place.Place.{Place}
+use Rattle.pddl_text.specs.declared.plan.PlanLine.{PlanLine}
 use Rattle.pddl_text.specs.Places.{past_of}
 use Rattle.pddl_text.specs.Tokens.{Token, Word, Open, Close, Stray}
 
@@ -24,3 +27,13 @@ SpansAscend from to (Word text at first past ∷ tokens) = (from ≤ first) × (
 SpansAscend from to (Open at ∷ tokens) = SpansAscend (from + 1) to tokens
 SpansAscend from to (Close at ∷ tokens) = SpansAscend (from + 1) to tokens
 SpansAscend from to (Stray at ∷ tokens) = SpansAscend (from + 1) to tokens
+
+-- from this position on, each word is the lower case of a slice of the bytes, behind the slice of the word before it
+abbrev pub WordsAscend : List ℕ → ℕ → List (Text × Place) → Type 0
+WordsAscend bytes from [] = from ≤ length bytes
+WordsAscend bytes from ((text, at) ∷ words) =
+    (first : ℕ) × (from ≤ first) × (0 < length text) × StandsAt bytes text at first (first + length text) × WordsAscend bytes (first + length text) words
+
+-- the words of all lines of a plan, in their order
+abbrev pub words_of : List PlanLine → List (Text × Place)
+words_of lines = flat_map (λ (line : PlanLine). line.words) lines

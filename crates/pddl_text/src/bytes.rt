@@ -1,5 +1,5 @@
 ghost use Rattle.std.specs.Prelude.{◌≡◌};
-ghost use Rattle.pddl_text.specs.Bytes.{is_word_byte, kind};
+ghost use Rattle.pddl_text.specs.Bytes.{is_blank, is_name_start, is_space, is_word_byte, kind};
 
 /// What a byte begins where no word and no comment goes on.
 #[derive(Clone, Copy, Debug)]
@@ -35,4 +35,28 @@ pub fn kind_of(byte: u8) -> ByteKind
     } else {
         ByteKind::Stray
     }
+}
+
+/// Whether a byte is dropped at both ends of a plan's line.
+pub fn is_blank(byte: u8) -> bool
+    ensures { result ≡ is_blank byte }
+{
+    byte == b' ' || byte == b'\t' || byte == b'\r'
+}
+
+/// Whether a byte may stand between the names of a plan's line.
+pub fn is_space(byte: u8) -> bool
+    ensures { result ≡ is_space byte }
+{
+    byte == b' ' || byte == b'\t'
+}
+
+/// Whether a name may begin with this byte.
+pub fn is_name_start(byte: u8) -> bool
+    ensures { result ≡ is_name_start byte }
+{
+    b'A' <= byte && byte <= b'Z'
+        || b'a' <= byte && byte <= b'z'
+        || b'0' <= byte && byte <= b'9'
+        || byte == b'_'
 }

@@ -1,8 +1,10 @@
 ghost use Rattle.std.specs.Prelude.{◌≡◌, ◌⊎◌, ℕ, List};
 ghost use Rattle.pddl_text.specs.Forests.{Spells, IsFirstFault};
+ghost use Rattle.pddl_text.specs.Plans.{SpellsPlan, LeavesPlan};
 ghost use Rattle.pddl_text.specs.Tokens.{HasTokens, Token};
 ghost use Rattle.pddl_text.specs.declared.fault.TextFault.{TextFault};
 ghost use Rattle.pddl_text.specs.declared.place.Spot.{Spot};
+ghost use Rattle.pddl_text.specs.declared.plan.PlanLine.{PlanLine};
 ghost use Rattle.pddl_text.specs.declared.tree.Forest.{Forest};
 
 /// From each spot on, bytes have tokens, and only one list of them.
@@ -24,4 +26,17 @@ pub fn law_forests()
         Spells bytes forest → Spells bytes other → forest ≡ other }
     ensures one_fault { (bytes : List ℕ) (fault other : TextFault) →
         IsFirstFault bytes fault → IsFirstFault bytes other → fault ≡ other }
+{}
+
+/// Each text spells the lines of a plan or leaves their form somewhere first, never both, and only one of either.
+pub fn law_plans()
+    ensures either { (bytes : List ℕ) →
+        ((lines : List PlanLine) × SpellsPlan bytes lines)
+        ⊎ ((fault : TextFault) × LeavesPlan bytes fault) }
+    ensures never_both { (bytes : List ℕ) (lines : List PlanLine) (fault : TextFault) →
+        SpellsPlan bytes lines → LeavesPlan bytes fault → ⊥ }
+    ensures one_plan { (bytes : List ℕ) (lines others : List PlanLine) →
+        SpellsPlan bytes lines → SpellsPlan bytes others → lines ≡ others }
+    ensures one_fault { (bytes : List ℕ) (fault other : TextFault) →
+        LeavesPlan bytes fault → LeavesPlan bytes other → fault ≡ other }
 {}

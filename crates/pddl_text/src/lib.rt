@@ -6,11 +6,13 @@ mod fault;
 mod grove;
 mod laws;
 mod place;
+mod plan;
 mod reading;
 mod tree;
 
 pub use fault::{ReadStop, TextFault, TextRule};
-pub use laws::{law_forests, law_tokens};
+pub use laws::{law_forests, law_plans, law_tokens};
 pub use place::Place;
+pub use plan::{PlanLine, read_plan_lines};
 pub use reading::read_forest;
 pub use tree::{Forest, Tree};
