@@ -1,6 +1,7 @@
 pub mod AnswerLemmas
 pub mod TokenLemmas
 pub mod TreeLemmas
+pub mod ExactLemmas
 pub mod ForestLemmas
 pub mod SpanLemmas
 pub mod KeptLemmas
@@ -9,3 +10,4 @@ pub mod LineLemmas
 pub mod StuckLemmas
 pub mod PlanLemmas
 pub mod WordLemmas
+pub mod FewLemmas

@@ -1,29 +1,27 @@
 -- A row is read as the names of a line exactly where it is a line of the form.
-use Rattle.std.proofs.Common.{◌≡◌, ℕ, ◌+◌, ◌<◌, Bool, true, false, cond, List, [], ◌∷◌, ◌++◌, length, map, Option, Some, None, Result, Ok, Err, sym, ap, subst, ◌∙◌, refl, arith, append_assoc, length-append}
-use Rattle.std.specs.Prelude.{◌==◌, ◌&&◌, nat_lt, IsTrue}
-use Rattle.std.specs.List.{AllByRecursion}
+use Rattle.std.proofs.Common.{◌≡◌, ℕ, ◌+◌, ◌<◌, Bool, true, false, cond, List, [], ◌∷◌, ◌++◌, length, Option, Some, None, Result, Ok, sym, ap, subst, ◌∙◌, refl, arith, append_assoc, length-append}
+use Rattle.std.specs.Prelude.{◌==◌, ◌&&◌, nat_lt}
 use Rattle.std.specs.Char.{to_ascii_lowercase}
 use Rattle.std.specs.Str.{str_to_ascii_lowercase}
 use Rattle.std.proofs.lemmas.List.{append-nil}
 use Rattle.std.proofs.lemmas.Bool.Decides.{nat_tests}
 use Rattle.mre_base.specs.declared.text.Text.{Text}
 use Rattle.pddl_text.specs.declared.fault.TextFault.{TextFault}
-use Rattle.pddl_text.specs.declared.fault.TextRule.TheVariants as rule
 use Rattle.pddl_text.specs.declared.place.Place.{Place}
-use Rattle.pddl_text.specs.Bytes.{is_blank, is_space, is_name_start, is_word_byte}
-use Rattle.pddl_text.specs.Faults.{fault_at}
+use Rattle.pddl_text.specs.declared.plan.PlanLine.{PlanLine}
+use Rattle.pddl_text.specs.Bytes.{is_blank, is_space, is_name_start, is_word_byte, AreWordBytes, AreBlank}
 use Rattle.pddl_text.specs.Plans.{AreNames, none, space, name, IsLine}
-use Rattle.pddl_text.specs.PlanReading.{Row, Before, Inside, InName, Closed, RowState, inside_step, row_step, row_end, beside, goes_on, row_from, names_of}
+use Rattle.pddl_text.specs.PlanReading.{Row, Before, Inside, InName, Closed, RowState, inside_step, goes_on, row_from, line_of}
 use Rattle.pddl_text.specs.Tokens.{EndsWord}
 
 abbrev pub Words : Type 0
 Words = List (Text × Place)
 
 abbrev pub Read : Type 0
-Read = Result (List (Text × Place)) TextFault
+Read = Result PlanLine TextFault
 
 abbrev pub read : Words → Read
-read words = Ok words
+read words = Ok (record { words = words })
 
 abbrev pub at : ℕ → ℕ → Place
 at line column = record { line = line; column = column }
@@ -37,17 +35,17 @@ in_row words row = record { words = words; row = row }
 same_column : (state : RowState) (line one two : ℕ) (bytes : List ℕ) → one ≡ two → row_from state (at line one) bytes ≡ row_from state (at line two) bytes
 same_column state line one two bytes is = ap (λ (n : ℕ). row_from state (at line n) bytes) is
 
-lead_read : (lead rest : List ℕ) (words : Words) (line column : ℕ) → AllByRecursion (λ b. is_blank b ≡ true) lead
+lead_read : (lead rest : List ℕ) (words : Words) (line column : ℕ) → AreBlank lead
     → row_from (in_row words Before) (at line column) (lead ++ rest) ≡ row_from (in_row words Before) (at line (column + length lead)) rest
 lead_read [] rest words line column blank = same_column (in_row words Before) line column (column + 0) rest (omega arith)
 lead_read (b ∷ lead) rest words line column blank =
     rw blank.0 (lead_read lead rest words line (column + 1) blank.1 ∙ same_column (in_row words Before) line ((column + 1) + length lead) (column + length (b ∷ lead)) rest (omega arith))
 
-trail_read : (trail : List ℕ) (words : Words) (line column : ℕ) → AllByRecursion (λ b. is_blank b ≡ true) trail → row_from (in_row words Closed) (at line column) trail ≡ read words
+trail_read : (trail : List ℕ) (words : Words) (line column : ℕ) → AreBlank trail → row_from (in_row words Closed) (at line column) trail ≡ read words
 trail_read [] words line column blank = refl
 trail_read (b ∷ trail) words line column blank = rw blank.0 (trail_read trail words line (column + 1) blank.1)
 
-letters_read : (letters more : List ℕ) (d : ℕ) (text : Text) (from : Place) (words : Words) (line column : ℕ) → AllByRecursion (λ c. is_word_byte c ≡ true) letters → is_word_byte d ≡ false
+letters_read : (letters more : List ℕ) (d : ℕ) (text : Text) (from : Place) (words : Words) (line column : ℕ) → AreWordBytes letters → is_word_byte d ≡ false
     → row_from (in_row words (InName text from)) (at line column) (letters ++ d ∷ more)
     ≡ row_from (in_row (words ++ (text ++ str_to_ascii_lowercase letters, from) ∷ []) Inside) (at line (column + length letters)) (d ∷ more)
 letters_read [] more d text from words line column all ends =
@@ -66,7 +64,7 @@ name_is_no_close : (b : ℕ) → is_name_start b ≡ true → (b == 41) ≡ fals
 name_is_no_close b is = grind (arith, nat_tests)
 
 -- a byte that ends a name inside the parentheses
-letters_end : (letters rest trail : List ℕ) (text : Text) (from : Place) (words : Words) (line column : ℕ) → AllByRecursion (λ c. is_word_byte c ≡ true) letters → EndsWord rest
+letters_end : (letters rest trail : List ℕ) (text : Text) (from : Place) (words : Words) (line column : ℕ) → AreWordBytes letters → EndsWord rest
     → row_from (in_row words (InName text from)) (at line column) (letters ++ (rest ++ 41 ∷ trail))
     ≡ row_from (in_row (words ++ (text ++ str_to_ascii_lowercase letters, from) ∷ []) Inside) (at line (column + length letters)) (rest ++ 41 ∷ trail)
 letters_end letters [] trail text from words line column all ends = letters_read letters trail 41 text from words line column all refl
@@ -76,7 +74,7 @@ names_read : {line column : ℕ} {inside : List ℕ} {words : Words} → AreName
     → row_from (in_row before Inside) (at line column) (inside ++ 41 ∷ trail) ≡ row_from (in_row (before ++ words) Inside) (at line (column + length inside)) (41 ∷ trail)
 names_read (none {line = line} {column = column}) before trail =
     rw (append-nil before) (same_column (in_row before Inside) line column (column + 0) (41 ∷ trail) (omega arith))
-names_read (space {line = line} {column = column} {b = b} {bytes = bytes} {words = words} is more) before trail =
+names_read (space {line = line} {column = column} {b = b} {rest = bytes} {words = words} is more) before trail =
     rw is (names_read more before trail ∙ same_column (in_row (before ++ words) Inside) line ((column + 1) + length bytes) (column + length (b ∷ bytes)) (41 ∷ trail) (omega arith))
 names_read (name {line = line} {column = column} b letters rest {words = words} is all ends more) before trail =
     let word : Text × Place = (str_to_ascii_lowercase (b ∷ letters), at line column) in
@@ -97,14 +95,14 @@ named_test : (words : Words) → 0 < length words → nat_lt 0 (length words) �
 named_test words some = grind (arith, nat_tests)
 
 -- a line of the form is read as its names
-pub line_is_read : (line : ℕ) (bytes : List ℕ) (words : Words) → IsLine line bytes words → names_of line bytes ≡ read words
+pub line_is_read : (line : ℕ) (bytes : List ℕ) (words : Words) → IsLine line bytes words → line_of line bytes ≡ read words
 line_is_read line bytes words is =
     let opened : ℕ = 1 + length is.lead in
     let closed : ℕ = (opened + 1) + length is.inside in
     let column-is : length is.lead + 2 ≡ opened + 1 = omega arith in
     let names : AreNames line (opened + 1) is.inside words = subst (λ (n : ℕ). AreNames line n is.inside words) column-is is.names in
     let closes : row_from (in_row words Inside) (at line closed) (41 ∷ is.trail) ≡ row_from (in_row words Closed) (at line (closed + 1)) is.trail = rw (named_test words is.named) refl in
-    ap (names_of line) is.parts
+    ap (line_of line) is.parts
     ∙ lead_read is.lead (40 ∷ (is.inside ++ 41 ∷ is.trail)) [] line 1 is.lead_blank
     ∙ names_read names [] is.trail
     ∙ closes
@@ -113,11 +111,13 @@ line_is_read line bytes words is =
 -- ---- what is read is a line of the form
 
 read-inj : (one two : Words) → read one ≡ read two → one ≡ two
-read-inj one two e = cc
+read-inj one two e =
+    let same : record { words = one } ≡ record { words = two } = cc in
+    ap (λ (line : PlanLine). line.words) same
 
 -- behind the `)` stand blanks
 record TakesTrail (bytes : List ℕ) (before words : Words) : Type 0 where
-  blank : AllByRecursion (λ b. is_blank b ≡ true) bytes
+  blank : AreBlank bytes
   words-is : before ≡ words
 
 -- inside the parentheses stand names, up to the `)`
@@ -126,7 +126,7 @@ record TakesInside (line column : ℕ) (bytes : List ℕ) (before words : Words)
   trail : List ℕ
   more : Words
   parts : bytes ≡ inside ++ (41 ∷ trail)
-  blank : AllByRecursion (λ b. is_blank b ≡ true) trail
+  blank : AreBlank trail
   names : AreNames line column inside more
   words-is : words ≡ before ++ more
   named : 0 < length words
@@ -138,9 +138,9 @@ record TakesName (line column : ℕ) (bytes : List ℕ) (text : Text) (from : Pl
   trail : List ℕ
   more : Words
   parts : bytes ≡ letters ++ (inside ++ (41 ∷ trail))
-  all : AllByRecursion (λ c. is_word_byte c ≡ true) letters
+  all : AreWordBytes letters
   ends : EndsWord inside
-  blank : AllByRecursion (λ b. is_blank b ≡ true) trail
+  blank : AreBlank trail
   names : AreNames line (column + length letters) inside more
   words-is : words ≡ before ++ (text ++ str_to_ascii_lowercase letters, from) ∷ more
   named : 0 < length words
@@ -290,8 +290,8 @@ record TakesLead (line column : ℕ) (bytes : List ℕ) (before words : Words) :
   trail : List ℕ
   more : Words
   parts : bytes ≡ lead ++ (40 ∷ (inside ++ (41 ∷ trail)))
-  lead_blank : AllByRecursion (λ b. is_blank b ≡ true) lead
-  trail_blank : AllByRecursion (λ b. is_blank b ≡ true) trail
+  lead_blank : AreBlank lead
+  trail_blank : AreBlank trail
   names : AreNames line ((column + length lead) + 1) inside more
   words-is : words ≡ before ++ more
   named : 0 < length words
@@ -340,7 +340,7 @@ lead_takes line [] before words column e = absurd cc
 lead_takes line (b ∷ bytes) before words column e = lead_at line b bytes before words column (lead_takes line bytes before words (column + 1)) (is_blank b) (b == 40) refl refl e
 
 -- a row that is read as names is a line of the form
-pub read_is_line : (line : ℕ) (bytes : List ℕ) (words : Words) → names_of line bytes ≡ read words → IsLine line bytes words
+pub read_is_line : (line : ℕ) (bytes : List ℕ) (words : Words) → line_of line bytes ≡ read words → IsLine line bytes words
 read_is_line line bytes words e =
     let lead = lead_takes line bytes [] words 1 e in
     let column-is : (1 + length lead.lead) + 1 ≡ length lead.lead + 2 = omega arith in

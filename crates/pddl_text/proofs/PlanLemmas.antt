@@ -1,20 +1,15 @@
 -- A text spells exactly the lines of a plan that it is read as, and leaves the form exactly where its reading stops.
-use Rattle.std.proofs.Common.{◌≡◌, ℕ, ◌+◌, Bool, true, false, List, [], ◌∷◌, ◌++◌, length, Result, Ok, Err, sym, ap, subst, ◌∙◌, refl, append_assoc, inl, inr}
-use Rattle.std.specs.Prelude.{◌⊎◌, IfOk}
+use Rattle.std.proofs.Common.{◌≡◌, ℕ, ◌+◌, Bool, true, false, List, [], ◌∷◌, ◌++◌, Result, Ok, Err, sym, ap, subst, ◌∙◌, refl, append_assoc}
 use Rattle.std.proofs.lemmas.List.{append-nil}
 use Rattle.std.proofs.lemmas.Bool.{false≢true}
 use Rattle.pddl_text.specs.declared.fault.TextFault.{TextFault}
-use Rattle.pddl_text.specs.declared.fault.ReadStop.{ReadStop}
-use Rattle.pddl_text.specs.declared.fault.ReadStop.TheVariants as stop
 use Rattle.pddl_text.specs.declared.plan.PlanLine.{PlanLine}
-use Rattle.pddl_text.specs.Answers.{IfFault, AnswersOk, AnswersFault}
-use Rattle.pddl_text.specs.Plans.{rows_of, is_empty_row, kept, IsLine, LeavesForm, RowsSpell, end, empty, full, SpellsPlan, RowsFail, here, behind_empty, behind_full, LeavesPlan}
-use Rattle.pddl_text.specs.PlanReading.{names_of, adds, row_then, rows_from, lines_of, GivesLines}
-use Rattle.pddl_text.specs.Spans.{WordsAscend, words_of}
+use Rattle.pddl_text.specs.Plans.{rows_of, is_empty_row, kept, RowsSpell, end, empty, full, SpellsPlan, RowsFail, here, behind_empty, behind_full, LeavesPlan}
+use Rattle.pddl_text.specs.PlanReading.{line_of, adds, row_then, rows_from, lines_of}
+use Rattle.pddl_text.proofs.ExactLemmas.{IsExact}
 use Rattle.pddl_text.proofs.KeptLemmas.{kept_nothing}
 use Rattle.pddl_text.proofs.LineLemmas.{Words, Read, read, line_is_read, read_is_line}
 use Rattle.pddl_text.proofs.StuckLemmas.{failed, form_at, stopped_leaves, left_is_stopped}
-use Rattle.pddl_text.proofs.WordLemmas.{words_ascend}
 
 abbrev ReadLines : Type 0
 ReadLines = Result (List PlanLine) TextFault
@@ -25,8 +20,8 @@ all_read lines = Ok lines
 abbrev all_failed : TextFault → ReadLines
 all_failed fault = Err fault
 
-abbrev line_of : Words → PlanLine
-line_of words = record { words = words }
+abbrev named : Words → PlanLine
+named words = record { words = words }
 
 -- ---- which rows are empty
 
@@ -51,11 +46,11 @@ empty_then : (line : ℕ) (bytes : List ℕ) (lines : List PlanLine) (next : Lis
 empty_then line [] lines next none = refl
 empty_then line (b ∷ bytes) lines next none = absurd cc
 
-full_then : (line : ℕ) (bytes : List ℕ) (words : Words) (lines : List PlanLine) (next : List PlanLine → ReadLines) → names_of line bytes ≡ read words → row_then line bytes lines next ≡ next (lines ++ line_of words ∷ [])
+full_then : (line : ℕ) (bytes : List ℕ) (words : Words) (lines : List PlanLine) (next : List PlanLine → ReadLines) → line_of line bytes ≡ read words → row_then line bytes lines next ≡ next (lines ++ named words ∷ [])
 full_then line [] words lines next e = absurd cc
 full_then line (b ∷ bytes) words lines next e = ap (λ (r : Read). adds r lines next) e
 
-failed_then : (line : ℕ) (bytes : List ℕ) (fault : TextFault) (lines : List PlanLine) (next : List PlanLine → ReadLines) → (bytes ≡ [] → ⊥) → names_of line bytes ≡ failed fault → row_then line bytes lines next ≡ all_failed fault
+failed_then : (line : ℕ) (bytes : List ℕ) (fault : TextFault) (lines : List PlanLine) (next : List PlanLine → ReadLines) → (bytes ≡ [] → ⊥) → line_of line bytes ≡ failed fault → row_then line bytes lines next ≡ all_failed fault
 failed_then line [] fault lines next some e = absurd (some refl)
 failed_then line (b ∷ bytes) fault lines next some e = ap (λ (r : Read). adds r lines next) e
 
@@ -66,8 +61,8 @@ spelled_rows end lines = ap all_read (sym (append-nil lines))
 spelled_rows (empty {line = line} {row = row} {rows = rows} is more) lines =
     empty_then line (kept row) lines (λ all. rows_from all (line + 1) rows) (kept_nothing row is) ∙ spelled_rows more lines
 spelled_rows (full {line = line} row {rows = rows} {words = words} {lines = more_lines} is more) lines =
-    full_then line (kept row) words lines (λ all. rows_from all (line + 1) rows) (line_is_read line (kept row) words is) ∙ spelled_rows more (lines ++ line_of words ∷ [])
-    ∙ ap all_read (append_assoc lines (line_of words ∷ []) more_lines)
+    full_then line (kept row) words lines (λ all. rows_from all (line + 1) rows) (line_is_read line (kept row) words is) ∙ spelled_rows more (lines ++ named words ∷ [])
+    ∙ ap all_read (append_assoc lines (named words ∷ []) more_lines)
 
 failing_rows : {line : ℕ} {rows : List (List ℕ)} {fault : TextFault} → RowsFail line rows fault → (lines : List PlanLine) → rows_from lines line rows ≡ all_failed fault
 failing_rows (here {line = line} row {rows = rows} {column = column} some left) lines =
@@ -75,7 +70,7 @@ failing_rows (here {line = line} row {rows = rows} {column = column} some left) 
 failing_rows (behind_empty {line = line} {row = row} {rows = rows} is more) lines =
     empty_then line (kept row) lines (λ all. rows_from all (line + 1) rows) (kept_nothing row is) ∙ failing_rows more lines
 failing_rows (behind_full {line = line} row {rows = rows} {words = words} is more) lines =
-    full_then line (kept row) words lines (λ all. rows_from all (line + 1) rows) (line_is_read line (kept row) words is) ∙ failing_rows more (lines ++ line_of words ∷ [])
+    full_then line (kept row) words lines (λ all. rows_from all (line + 1) rows) (line_is_read line (kept row) words is) ∙ failing_rows more (lines ++ named words ∷ [])
 
 -- ---- what is read is spelled
 
@@ -90,14 +85,14 @@ all_read-inj one two e = cc
 abbrev SpelledFrom : ℕ → List (List ℕ) → Type 0
 SpelledFrom line rows = (lines all : List PlanLine) → rows_from lines line rows ≡ all_read all → SpellsMore line rows lines all
 
-full_spelled : (line : ℕ) (row : List ℕ) (rows : List (List ℕ)) (lines all : List PlanLine) → SpelledFrom (line + 1) rows → (result : Read) → names_of line (kept row) ≡ result
+full_spelled : (line : ℕ) (row : List ℕ) (rows : List (List ℕ)) (lines all : List PlanLine) → SpelledFrom (line + 1) rows → (result : Read) → line_of line (kept row) ≡ result
     → adds result lines (λ more. rows_from more (line + 1) rows) ≡ all_read all → SpellsMore line (row ∷ rows) lines all
-full_spelled line row rows lines all rest (Ok words) is e =
-    let found = rest (lines ++ line_of words ∷ []) all e in
+full_spelled line row rows lines all rest (Ok one) is e =
+    let found = rest (lines ++ one ∷ []) all e in
     record {
-      more = line_of words ∷ found.more;
-      all-is = found.all-is ∙ append_assoc lines (line_of words ∷ []) found.more;
-      spells = full row (read_is_line line (kept row) words is) found.spells;
+      more = one ∷ found.more;
+      all-is = found.all-is ∙ append_assoc lines (one ∷ []) found.more;
+      spells = full row (read_is_line line (kept row) one.words is) found.spells;
     }
 full_spelled line row rows lines all rest (Err fault) is e = absurd cc
 
@@ -106,7 +101,7 @@ row_spelled : (line : ℕ) (row : List ℕ) (rows : List (List ℕ)) (lines all 
 row_spelled line row rows lines all rest [] is e =
     let found = rest lines all e in
     record { more = found.more; all-is = found.all-is; spells = empty (kept_is_nothing row is) found.spells }
-row_spelled line row rows lines all rest (b ∷ bytes) is e = full_spelled line row rows lines all rest (names_of line (b ∷ bytes)) (ap (names_of line) is) e
+row_spelled line row rows lines all rest (b ∷ bytes) is e = full_spelled line row rows lines all rest (line_of line (b ∷ bytes)) (ap (line_of line) is) e
 
 read_rows : (rows : List (List ℕ)) (line : ℕ) → SpelledFrom line rows
 read_rows [] line lines all e = record { more = []; all-is = sym (all_read-inj lines all e) ∙ sym (append-nil lines); spells = end }
@@ -117,21 +112,21 @@ read_rows (row ∷ rows) line lines all e = row_spelled line row rows lines all 
 abbrev FailsFrom : ℕ → List (List ℕ) → Type 0
 FailsFrom line rows = (lines : List PlanLine) (fault : TextFault) → rows_from lines line rows ≡ all_failed fault → RowsFail line rows fault
 
-row_stopped : (line : ℕ) (row : List ℕ) (rows : List (List ℕ)) (fault : TextFault) → is_empty_row row ≡ false → names_of line (kept row) ≡ failed fault → RowsFail line (row ∷ rows) fault
+row_stopped : (line : ℕ) (row : List ℕ) (rows : List (List ℕ)) (fault : TextFault) → is_empty_row row ≡ false → line_of line (kept row) ≡ failed fault → RowsFail line (row ∷ rows) fault
 row_stopped line row rows fault some e =
     let stop = stopped_leaves line (kept row) fault e in
     subst (RowsFail line (row ∷ rows)) (sym stop.1) (here row some stop.2)
 
-full_fails : (line : ℕ) (row : List ℕ) (rows : List (List ℕ)) (lines : List PlanLine) (fault : TextFault) → is_empty_row row ≡ false → FailsFrom (line + 1) rows → (result : Read) → names_of line (kept row) ≡ result
+full_fails : (line : ℕ) (row : List ℕ) (rows : List (List ℕ)) (lines : List PlanLine) (fault : TextFault) → is_empty_row row ≡ false → FailsFrom (line + 1) rows → (result : Read) → line_of line (kept row) ≡ result
     → adds result lines (λ more. rows_from more (line + 1) rows) ≡ all_failed fault → RowsFail line (row ∷ rows) fault
-full_fails line row rows lines fault some rest (Ok words) is e = behind_full row (read_is_line line (kept row) words is) (rest (lines ++ line_of words ∷ []) fault e)
+full_fails line row rows lines fault some rest (Ok one) is e = behind_full row (read_is_line line (kept row) one.words is) (rest (lines ++ one ∷ []) fault e)
 full_fails line row rows lines fault some rest (Err found) is e = let same : found ≡ fault = cc in row_stopped line row rows fault some (is ∙ ap failed same)
 
 row_fails : (line : ℕ) (row : List ℕ) (rows : List (List ℕ)) (lines : List PlanLine) (fault : TextFault) → FailsFrom (line + 1) rows → (bytes : List ℕ) → kept row ≡ bytes
     → row_then line bytes lines (λ more. rows_from more (line + 1) rows) ≡ all_failed fault → RowsFail line (row ∷ rows) fault
 row_fails line row rows lines fault rest [] is e = behind_empty (kept_is_nothing row is) (rest lines fault e)
 row_fails line row rows lines fault rest (b ∷ bytes) is e =
-    full_fails line row rows lines fault (filled row b bytes (is_empty_row row) refl is) rest (names_of line (b ∷ bytes)) (ap (names_of line) is) e
+    full_fails line row rows lines fault (filled row b bytes (is_empty_row row) refl is) rest (line_of line (b ∷ bytes)) (ap (line_of line) is) e
 
 fails_rows : (rows : List (List ℕ)) (line : ℕ) → FailsFrom line rows
 fails_rows [] line lines fault e = absurd cc
@@ -139,63 +134,15 @@ fails_rows (row ∷ rows) line lines fault e = row_fails line row rows lines fau
 
 -- ---- a whole plan
 
-pub spelled_is_read : (bytes : List ℕ) (lines : List PlanLine) → SpellsPlan bytes lines → lines_of bytes ≡ all_read lines
-spelled_is_read bytes lines spells = spelled_rows spells []
-
-pub read_is_spelled : (bytes : List ℕ) (lines : List PlanLine) → lines_of bytes ≡ all_read lines → SpellsPlan bytes lines
+read_is_spelled : (bytes : List ℕ) (lines : List PlanLine) → lines_of bytes ≡ all_read lines → SpellsPlan bytes lines
 read_is_spelled bytes lines e =
     let found = read_rows (rows_of bytes) 1 [] lines e in
     subst (SpellsPlan bytes) (sym found.all-is) found.spells
 
-pub left_is_failed : (bytes : List ℕ) (fault : TextFault) → LeavesPlan bytes fault → lines_of bytes ≡ all_failed fault
-left_is_failed bytes fault leaves = failing_rows leaves []
-
-pub failed_is_left : (bytes : List ℕ) (fault : TextFault) → lines_of bytes ≡ all_failed fault → LeavesPlan bytes fault
-failed_is_left bytes fault e = fails_rows (rows_of bytes) 1 [] fault e
-
-apart : (lines : List PlanLine) (fault : TextFault) → all_read lines ≡ all_failed fault → ⊥
-apart lines fault e = cc
-
-all_failed-inj : (one two : TextFault) → all_failed one ≡ all_failed two → one ≡ two
-all_failed-inj one two e = cc
-
-pub same_lines : (bytes : List ℕ) (one two : List PlanLine) → SpellsPlan bytes one → SpellsPlan bytes two → one ≡ two
-same_lines bytes one two first second = all_read-inj one two (sym (spelled_is_read bytes one first) ∙ spelled_is_read bytes two second)
-
-pub same_leaving : (bytes : List ℕ) (one two : TextFault) → LeavesPlan bytes one → LeavesPlan bytes two → one ≡ two
-same_leaving bytes one two first second = all_failed-inj one two (sym (left_is_failed bytes one first) ∙ left_is_failed bytes two second)
-
-pub never_both : (bytes : List ℕ) (lines : List PlanLine) (fault : TextFault) → SpellsPlan bytes lines → LeavesPlan bytes fault → ⊥
-never_both bytes lines fault spells leaves = apart lines fault (sym (spelled_is_read bytes lines spells) ∙ left_is_failed bytes fault leaves)
-
-either_of : (bytes : List ℕ) (result : ReadLines) → lines_of bytes ≡ result → ((lines : List PlanLine) × SpellsPlan bytes lines) ⊎ ((fault : TextFault) × LeavesPlan bytes fault)
-either_of bytes (Ok lines) e = inl (lines, read_is_spelled bytes lines e)
-either_of bytes (Err fault) e = inr (fault, failed_is_left bytes fault e)
-
-pub either : (bytes : List ℕ) → ((lines : List PlanLine) × SpellsPlan bytes lines) ⊎ ((fault : TextFault) × LeavesPlan bytes fault)
-either bytes = either_of bytes (lines_of bytes) refl
-
--- ---- the clauses of the reader, from what its answer gives
-
-pub gives_ok : (bytes : List ℕ) (result : Result (List PlanLine) ReadStop) → GivesLines result (lines_of bytes) → IfOk result (λ lines. SpellsPlan bytes lines)
-gives_ok bytes (Ok lines) gives = read_is_spelled bytes lines gives
-gives_ok bytes (Err why) gives = tt
-
-pub gives_fault : (bytes : List ℕ) (result : Result (List PlanLine) ReadStop) → GivesLines result (lines_of bytes) → IfFault result (λ fault. LeavesPlan bytes fault)
-gives_fault bytes (Ok lines) gives = tt
-gives_fault bytes (Err (stop.Fault fault)) gives = failed_is_left bytes fault gives
-gives_fault bytes (Err stop.NoMemory) gives = tt
-
-pub gives_spelled : (bytes : List ℕ) (result : Result (List PlanLine) ReadStop) → GivesLines result (lines_of bytes) → (lines : List PlanLine) → SpellsPlan bytes lines → AnswersOk result lines
-gives_spelled bytes (Ok found) gives lines spells = same_lines bytes found lines (read_is_spelled bytes found gives) spells
-gives_spelled bytes (Err (stop.Fault fault)) gives lines spells = never_both bytes lines fault spells (failed_is_left bytes fault gives)
-gives_spelled bytes (Err stop.NoMemory) gives lines spells = tt
-
-pub gives_left : (bytes : List ℕ) (result : Result (List PlanLine) ReadStop) → GivesLines result (lines_of bytes) → (fault : TextFault) → LeavesPlan bytes fault → AnswersFault result fault
-gives_left bytes (Ok found) gives fault leaves = never_both bytes found fault (read_is_spelled bytes found gives) leaves
-gives_left bytes (Err (stop.Fault found)) gives fault leaves = same_leaving bytes found fault (failed_is_left bytes found gives) leaves
-gives_left bytes (Err stop.NoMemory) gives fault leaves = tt
-
-pub gives_words : (bytes : List ℕ) (result : Result (List PlanLine) ReadStop) → GivesLines result (lines_of bytes) → IfOk result (λ lines. WordsAscend bytes 0 (words_of lines))
-gives_words bytes (Ok lines) gives = words_ascend bytes lines (read_is_spelled bytes lines gives)
-gives_words bytes (Err why) gives = tt
+pub plan_exact : (bytes : List ℕ) → IsExact (lines_of bytes) (SpellsPlan bytes) (LeavesPlan bytes)
+plan_exact bytes = record {
+  spelled = λ lines spells. spelled_rows spells [];
+  is_spelled = read_is_spelled bytes;
+  broken = λ fault leaves. failing_rows leaves [];
+  is_broken = λ fault. fails_rows (rows_of bytes) 1 [] fault;
+}

@@ -1,13 +1,12 @@
 -- The words of a text stand in its bytes where they say, one behind another.
-use Rattle.std.proofs.Common.{◌≡◌, ℕ, ◌+◌, ◌-◌, ◌<◌, ◌≤◌, List, [], ◌∷◌, ◌++◌, length, take, drop, sym, ap, subst, ◌∙◌, refl, arith, append_assoc, length-append}
+use Rattle.std.proofs.Common.{◌≡◌, ℕ, ◌+◌, ◌-◌, ◌≤◌, List, [], ◌∷◌, ◌++◌, length, take, drop, sym, ap, subst, ◌∙◌, refl, arith, append_assoc, length-append}
 use Rattle.std.specs.Prelude.{slice_range}
 use Rattle.std.specs.List.{AllByRecursion}
 use Rattle.std.specs.Str.{str_to_ascii_lowercase}
 use Rattle.std.proofs.Math.Seq.{take-append_seam, drop-append_seam}
-use Rattle.std.proofs.lemmas.List.{append-nil}
 use Rattle.pddl_text.specs.declared.place.Place.{Place}
 use Rattle.pddl_text.specs.declared.place.Spot.{Spot}
-use Rattle.pddl_text.specs.Places.{start, after, after_all, past_of}
+use Rattle.pddl_text.specs.Places.{start, after_all, past_of}
 use Rattle.pddl_text.specs.Spans.{StandsAt, StandsIn, SpansAscend}
 use Rattle.pddl_text.specs.Tokens.{Token, Word, Open, Close, Stray, HasTokens, end, white, comment, opening, closing, word, stray}
 use Rattle.pddl_text.proofs.TokenLemmas.{after_all-append, position-after_all}
@@ -30,14 +29,14 @@ spans_from s front rest tokens spans =
 
 pub spans_ascend : {s : Spot} {bytes : List ℕ} {tokens : List Token} → HasTokens s bytes tokens → SpansAscend s.position (s.position + length bytes) tokens
 spans_ascend (end {s = s}) = omega arith
-spans_ascend (white {s = s} {b = b} {bytes = bytes} {tokens = tokens} is more) =
+spans_ascend (white {s = s} {b = b} {rest = bytes} {tokens = tokens} is more) =
     spans_lower s.position (s.position + 1) (s.position + length (b ∷ bytes)) tokens (omega arith) (spans_from s (b ∷ []) bytes tokens (spans_ascend more))
-spans_ascend (comment {s = s} inside rest {tokens = tokens} none ends more) =
+spans_ascend (comment {s = s} inside rest {tokens = tokens} plain ends more) =
     spans_lower s.position (s.position + length (59 ∷ inside)) (s.position + length (59 ∷ inside ++ rest)) tokens (omega arith) (spans_from s (59 ∷ inside) rest tokens (spans_ascend more))
-spans_ascend (opening {s = s} {bytes = bytes} {tokens = tokens} more) = spans_from s (40 ∷ []) bytes tokens (spans_ascend more)
-spans_ascend (closing {s = s} {bytes = bytes} {tokens = tokens} more) = spans_from s (41 ∷ []) bytes tokens (spans_ascend more)
+spans_ascend (opening {s = s} {rest = bytes} {tokens = tokens} more) = spans_from s (40 ∷ []) bytes tokens (spans_ascend more)
+spans_ascend (closing {s = s} {rest = bytes} {tokens = tokens} more) = spans_from s (41 ∷ []) bytes tokens (spans_ascend more)
 spans_ascend (word {s = s} b letters rest {tokens = tokens} all ends more) = (omega arith, omega arith, spans_from s (b ∷ letters) rest tokens (spans_ascend more))
-spans_ascend (stray {s = s} {b = b} {bytes = bytes} {tokens = tokens} is more) = spans_from s (b ∷ []) bytes tokens (spans_ascend more)
+spans_ascend (stray {s = s} {b = b} {rest = bytes} {tokens = tokens} is more) = spans_from s (b ∷ []) bytes tokens (spans_ascend more)
 
 -- a word behind a front of the bytes
 pub stands : (front letters rest : List ℕ) → StandsAt (front ++ (letters ++ rest)) (str_to_ascii_lowercase letters) (past_of front) (length front) (length front + length letters)
@@ -71,20 +70,28 @@ moved_spot front part s s-is = ap (λ (x : Spot). after_all x part) s-is ∙ sym
 
 words_behind : {s : Spot} {bytes : List ℕ} {tokens : List Token} → HasTokens s bytes tokens → (whole front : List ℕ) → whole ≡ front ++ bytes → s ≡ after_all start front → AllByRecursion (StandsIn whole) tokens
 words_behind end whole front whole-is s-is = tt
-words_behind (white {s = s} {b = b} {bytes = bytes} is more) whole front whole-is s-is =
+words_behind (white {s = s} {b = b} {rest = bytes} is more) whole front whole-is s-is =
     words_behind more whole (front ++ b ∷ []) (moved whole front (b ∷ []) bytes whole-is) (moved_spot front (b ∷ []) s s-is)
-words_behind (comment {s = s} inside rest none ends more) whole front whole-is s-is =
+words_behind (comment {s = s} inside rest plain ends more) whole front whole-is s-is =
     words_behind more whole (front ++ 59 ∷ inside) (moved whole front (59 ∷ inside) rest whole-is) (moved_spot front (59 ∷ inside) s s-is)
-words_behind (opening {s = s} {bytes = bytes} more) whole front whole-is s-is =
+words_behind (opening {s = s} {rest = bytes} more) whole front whole-is s-is =
     (tt, words_behind more whole (front ++ 40 ∷ []) (moved whole front (40 ∷ []) bytes whole-is) (moved_spot front (40 ∷ []) s s-is))
-words_behind (closing {s = s} {bytes = bytes} more) whole front whole-is s-is =
+words_behind (closing {s = s} {rest = bytes} more) whole front whole-is s-is =
     (tt, words_behind more whole (front ++ 41 ∷ []) (moved whole front (41 ∷ []) bytes whole-is) (moved_spot front (41 ∷ []) s s-is))
 words_behind (word {s = s} b letters rest all ends more) whole front whole-is s-is = (
   stands_here whole front (b ∷ letters) rest s whole-is s-is,
   words_behind more whole (front ++ b ∷ letters) (moved whole front (b ∷ letters) rest whole-is) (moved_spot front (b ∷ letters) s s-is),
 )
-words_behind (stray {s = s} {b = b} {bytes = bytes} is more) whole front whole-is s-is =
+words_behind (stray {s = s} {b = b} {rest = bytes} is more) whole front whole-is s-is =
     (tt, words_behind more whole (front ++ b ∷ []) (moved whole front (b ∷ []) bytes whole-is) (moved_spot front (b ∷ []) s s-is))
 
 pub words_stand : (bytes : List ℕ) (tokens : List Token) → HasTokens start bytes tokens → AllByRecursion (StandsIn bytes) tokens
 words_stand bytes tokens has = words_behind has bytes [] refl refl
+
+-- each token takes a byte or more
+pub tokens_few : (from to : ℕ) (tokens : List Token) → SpansAscend from to tokens → from + length tokens ≤ to
+tokens_few from to [] spans = omega arith
+tokens_few from to (Word text at first past ∷ tokens) spans = omega (arith, spans.0, spans.1, tokens_few past to tokens spans.2)
+tokens_few from to (Open at ∷ tokens) spans = omega (arith, tokens_few (from + 1) to tokens spans)
+tokens_few from to (Close at ∷ tokens) spans = omega (arith, tokens_few (from + 1) to tokens spans)
+tokens_few from to (Stray at ∷ tokens) spans = omega (arith, tokens_few (from + 1) to tokens spans)

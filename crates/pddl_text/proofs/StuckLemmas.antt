@@ -1,7 +1,6 @@
 -- The reading of a row stops exactly where the row leaves the form: behind bytes with which some line of the form begins.
-use Rattle.std.proofs.Common.{◌≡◌, ℕ, ◌+◌, ◌<◌, Bool, true, false, cond, List, [], ◌∷◌, ◌++◌, length, Option, Some, None, Result, Ok, Err, sym, ap, subst, ◌∙◌, refl, arith, append_assoc, length-append, inl, inr}
+use Rattle.std.proofs.Common.{◌≡◌, ℕ, ◌+◌, true, List, [], ◌∷◌, ◌++◌, length, Option, Some, None, Ok, Err, sym, ap, subst, ◌∙◌, refl, arith, append_assoc, length-append, inl, inr}
 use Rattle.std.specs.Prelude.{◌⊎◌, nat_lt}
-use Rattle.std.specs.Char.{to_ascii_lowercase}
 use Rattle.std.proofs.lemmas.List.{append-nil}
 use Rattle.std.proofs.lemmas.Bool.Decides.{nat_tests}
 use Rattle.mre_base.specs.declared.text.Text.{Text}
@@ -10,7 +9,7 @@ use Rattle.pddl_text.specs.declared.fault.TextRule.TheVariants as rule
 use Rattle.pddl_text.specs.declared.place.Place.{Place}
 use Rattle.pddl_text.specs.Faults.{fault_at}
 use Rattle.pddl_text.specs.Plans.{IsLine, BeginsLine, IsStuck, LeavesForm}
-use Rattle.pddl_text.specs.PlanReading.{Row, Before, Inside, InName, Closed, RowState, row_step, row_end, row_from, row_start, names_of}
+use Rattle.pddl_text.specs.PlanReading.{Row, Before, Inside, InName, Closed, RowState, row_step, row_end, row_from, row_start, line_of}
 use Rattle.pddl_text.proofs.LineLemmas.{Words, Read, read, at, in_row, then_from, line_is_read, read_is_line}
 
 -- each state is led to the end of a line by some bytes
@@ -113,10 +112,10 @@ stops_in (b ∷ bytes) state line column fault e =
 
 stuck_at : (line : ℕ) (front rest : List ℕ) (there : RowState) → Leads row_start line 1 front there → Stops there line (1 + length front) rest → IsStuck line front rest
 stuck_at line front [] there leads stops = λ words is.
-    apart words (form_at line (1 + length front)) (sym (line_is_read line front words is) ∙ ap (names_of line) (sym (append-nil front)) ∙ leads [] ∙ stops)
+    apart words (form_at line (1 + length front)) (sym (line_is_read line front words is) ∙ ap (line_of line) (sym (append-nil front)) ∙ leads [] ∙ stops)
 stuck_at line front (b ∷ rest) there leads stops = λ begins.
     apart begins.1 (form_at line (1 + length front))
-    (sym (line_is_read line ((front ++ b ∷ []) ++ begins.0) begins.1 begins.2) ∙ ap (names_of line) (append_assoc front (b ∷ []) begins.0) ∙ leads (b ∷ begins.0)
+    (sym (line_is_read line ((front ++ b ∷ []) ++ begins.0) begins.1 begins.2) ∙ ap (line_of line) (append_assoc front (b ∷ []) begins.0) ∙ leads (b ∷ begins.0)
     ∙ ap (λ (o : Option RowState). then_from o line (1 + length front) begins.0) stops)
 
 begins_at : (line : ℕ) (front : List ℕ) (there : RowState) → Leads row_start line 1 front there → BeginsLine line front
@@ -125,7 +124,7 @@ begins_at line front there leads =
     (end.more, end.words, read_is_line line (front ++ end.more) end.words (leads end.more ∙ end.read-is))
 
 -- a row that is not read leaves the form there
-pub stopped_leaves : (line : ℕ) (bytes : List ℕ) (fault : TextFault) → names_of line bytes ≡ failed fault → (column : ℕ) × (fault ≡ form_at line column) × LeavesForm line bytes column
+pub stopped_leaves : (line : ℕ) (bytes : List ℕ) (fault : TextFault) → line_of line bytes ≡ failed fault → (column : ℕ) × (fault ≡ form_at line column) × LeavesForm line bytes column
 stopped_leaves line bytes fault e =
     let stop = stops_in bytes row_start line 1 fault e in (
       1 + length stop.front,
@@ -161,8 +160,8 @@ begins_leads : (line : ℕ) (front : List ℕ) → BeginsLine line front → Way
 begins_leads line front begins (inl found) = found
 begins_leads line front begins (inr (fault, fails)) = absurd (apart begins.1 fault (sym (line_is_read line (front ++ begins.0) begins.1 begins.2) ∙ fails begins.0))
 
-ends_failed : (line : ℕ) (front : List ℕ) (there : RowState) (result : Read) → names_of line front ≡ result → row_end there.row there.words (at line (1 + length front)) ≡ result → ((words : Words) → IsLine line front words → ⊥) → result ≡ failed (form_at line (1 + length front))
-ends_failed line front there (Ok words) e ends no_line = absurd (no_line words (read_is_line line front words e))
+ends_failed : (line : ℕ) (front : List ℕ) (there : RowState) (result : Read) → line_of line front ≡ result → row_end there.row there.words (at line (1 + length front)) ≡ result → ((words : Words) → IsLine line front words → ⊥) → result ≡ failed (form_at line (1 + length front))
+ends_failed line front there (Ok found) e ends no_line = absurd (no_line found.words (read_is_line line front found.words e))
 ends_failed line front there (Err fault) e ends no_line = let is = end_stops there.row there.words line (1 + length front) fault ends in ap failed is.1
 
 steps_failed : (line b : ℕ) (front rest : List ℕ) (there : RowState) → Leads row_start line 1 front there → (BeginsLine line (front ++ b ∷ []) → ⊥) → (o : Option RowState) → row_step there.row there.words (at line (1 + length front)) b ≡ o
@@ -170,21 +169,21 @@ steps_failed : (line b : ℕ) (front rest : List ℕ) (there : RowState) → Lea
 steps_failed line b front rest there leads no_line None is = refl
 steps_failed line b front rest there leads no_line (Some next) is =
     let end = completes next.row next.words line ((1 + length front) + 1) in
-    let reads : names_of line ((front ++ b ∷ []) ++ end.more) ≡ read end.words =
-    ap (names_of line) (append_assoc front (b ∷ []) end.more) ∙ leads (b ∷ end.more) ∙ ap (λ (o : Option RowState). then_from o line (1 + length front) end.more) is ∙ end.read-is
+    let reads : line_of line ((front ++ b ∷ []) ++ end.more) ≡ read end.words =
+    ap (line_of line) (append_assoc front (b ∷ []) end.more) ∙ leads (b ∷ end.more) ∙ ap (λ (o : Option RowState). then_from o line (1 + length front) end.more) is ∙ end.read-is
     in
     absurd (no_line (end.more, end.words, read_is_line line ((front ++ b ∷ []) ++ end.more) end.words reads))
 
-rest_failed : (line : ℕ) (front rest : List ℕ) (there : RowState) → Leads row_start line 1 front there → IsStuck line front rest → names_of line (front ++ rest) ≡ failed (form_at line (1 + length front))
+rest_failed : (line : ℕ) (front rest : List ℕ) (there : RowState) → Leads row_start line 1 front there → IsStuck line front rest → line_of line (front ++ rest) ≡ failed (form_at line (1 + length front))
 rest_failed line front [] there leads stuck =
-    let alone = ap (names_of line) (append-nil front) in
-    alone ∙ ends_failed line front there (names_of line front) refl (sym (leads []) ∙ alone) stuck
+    let alone = ap (line_of line) (append-nil front) in
+    alone ∙ ends_failed line front there (line_of line front) refl (sym (leads []) ∙ alone) stuck
 rest_failed line front (b ∷ rest) there leads stuck =
     leads (b ∷ rest) ∙ steps_failed line b front rest there leads stuck (row_step there.row there.words (at line (1 + length front)) b) refl
 
 -- a row that leaves the form is not read, and stops there
-pub left_is_stopped : (line : ℕ) (bytes : List ℕ) (column : ℕ) → LeavesForm line bytes column → names_of line bytes ≡ failed (form_at line column)
+pub left_is_stopped : (line : ℕ) (bytes : List ℕ) (column : ℕ) → LeavesForm line bytes column → line_of line bytes ≡ failed (form_at line column)
 left_is_stopped line bytes column left =
     let found = begins_leads line left.before left.goes_on (way left.before row_start line 1) in
     let column-is : 1 + length left.before ≡ column = omega (arith, left.behind) in
-    ap (names_of line) left.parts ∙ rest_failed line left.before left.rest found.0 found.1 left.stuck ∙ ap (λ (n : ℕ). failed (form_at line n)) column-is
+    ap (line_of line) left.parts ∙ rest_failed line left.before left.rest found.0 found.1 left.stuck ∙ ap (λ (n : ℕ). failed (form_at line n)) column-is

@@ -1,5 +1,5 @@
 -- What the tokens of trees are read as, and what trees that were read have as tokens.
-use Rattle.std.proofs.Common.{◌≡◌, ℕ, ◌+◌, ◌<◌, ◌≤◌, suc, zero, max, Bool, true, false, cond, ltb, List, [], ◌∷◌, ◌++◌, length, map, Option, Some, None, Result, Ok, Err, sym, ap, subst, ◌∙◌, refl, arith, append_assoc}
+use Rattle.std.proofs.Common.{◌≡◌, ℕ, ◌+◌, ◌≤◌, suc, max, Bool, true, false, cond, ltb, List, [], ◌∷◌, ◌++◌, length, map, Option, Some, None, Result, Ok, Err, sym, ap, subst, ◌∙◌, refl, arith, append_assoc}
 use Rattle.std.proofs.lemmas.List.{append-nil}
 use borrow.Author.Tests.{ltb-true, lt-ltb}
 use Rattle.pddl_text.specs.declared.fault.TextFault.{TextFault}
@@ -9,7 +9,7 @@ use Rattle.pddl_text.specs.declared.place.Place.{Place}
 use Rattle.pddl_text.specs.declared.tree.Tree.{Tree, roll-Tree}
 use Rattle.pddl_text.specs.declared.tree.Tree.TheVariants as tree
 use Rattle.pddl_text.specs.declared.tree.Tree.TheOpen.{Tree-F}
-use Rattle.pddl_text.specs.declared.tree.Tree.TheFolds.{fold-Tree, fold-roll-Tree, ind-Tree}
+use Rattle.pddl_text.specs.declared.tree.Tree.TheFolds.{fold-roll-Tree, ind-Tree}
 use Rattle.pddl_text.specs.declared.tree.Tree.{map-Tree}
 use Rattle.pddl_text.specs.Faults.{fault_at}
 use Rattle.pddl_text.specs.Forests.{tokens_step, tokens_of, tokens_of_all, height_step, height, height_of_all, first_fault}

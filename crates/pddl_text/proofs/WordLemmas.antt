@@ -1,7 +1,7 @@
 -- The words of a plan's lines stand in its bytes where they say, one behind another.
-use Rattle.std.proofs.Common.{◌≡◌, ℕ, ◌+◌, ◌<◌, ◌≤◌, Bool, true, false, cond, List, [], ◌∷◌, ◌++◌, length, sym, ap, subst, ◌∙◌, refl, arith, append_assoc, length-append}
+use Rattle.std.proofs.Common.{◌≡◌, ◌≢◌, ℕ, ◌+◌, ◌≤◌, Bool, true, false, cond, List, [], ◌∷◌, ◌++◌, length, sym, ap, subst, ◌∙◌, refl, arith, append_assoc, length-append}
 use Rattle.std.specs.Prelude.{◌==◌}
-use Rattle.std.specs.List.{AllByRecursion, slice_split, onto_first, join_with_byte}
+use Rattle.std.specs.List.{AllByRecursion, onto_first, join_with_byte}
 use Rattle.std.specs.Char.{to_ascii_lowercase}
 use Rattle.std.specs.Str.{str_to_ascii_lowercase}
 use Rattle.std.proofs.lemmas.List.{append-nil, length-map}
@@ -11,19 +11,15 @@ use Rattle.mre_base.specs.declared.text.Text.{Text}
 use Rattle.pddl_text.specs.declared.place.Place.{Place}
 use Rattle.pddl_text.specs.declared.place.Spot.{Spot}
 use Rattle.pddl_text.specs.declared.plan.PlanLine.{PlanLine}
-use Rattle.pddl_text.specs.Bytes.{is_blank, is_space, is_name_start, is_word_byte}
-use Rattle.pddl_text.specs.Places.{start, after, after_all, past_of}
+use Rattle.pddl_text.specs.Bytes.{is_blank, is_space, is_name_start, is_word_byte, OnOneLine, AreWordBytes, AreBlank}
+use Rattle.pddl_text.specs.Places.{start, after, past_of}
 use Rattle.pddl_text.specs.Plans.{rows_of, is_empty_row, kept, AreNames, none, space, name, IsLine, RowsSpell, end, empty, full, SpellsPlan}
 use Rattle.pddl_text.specs.Spans.{StandsAt, WordsAscend, words_of}
 use Rattle.pddl_text.proofs.SpanLemmas.{stands}
-use Rattle.pddl_text.proofs.TokenLemmas.{after_all-append}
+use Rattle.pddl_text.proofs.TokenLemmas.{after_all-append, not_feed, no_feed}
 
 abbrev Words : Type 0
 Words = List (Text × Place)
-
--- no line feed is among the bytes
-abbrev NoFeed : List ℕ → Type 0
-NoFeed = AllByRecursion (λ b. b == 10 ≡ false)
 
 words_lower : (bytes : List ℕ) (low from : ℕ) (words : Words) → low ≤ from → WordsAscend bytes from words → WordsAscend bytes low words
 words_lower bytes low from [] below ascend = omega arith
@@ -39,14 +35,14 @@ beside at = record { line = at.line; column = at.column + 1 }
 abbrev newline : Place → Place
 newline at = record { line = at.line + 1; column = 1 }
 
-after_place : (front : List ℕ) (b line column : ℕ) → (b == 10) ≡ false → IsAt front line column → IsAt (front ++ b ∷ []) line (column + 1)
+after_place : (front : List ℕ) (b line column : ℕ) → b ≢ 10 → IsAt front line column → IsAt (front ++ b ∷ []) line (column + 1)
 after_place front b line column other is =
     ap (λ (s : Spot). s.place) (after_all-append start front (b ∷ []))
-    ∙ ap (λ (t : Bool). cond t (newline (past_of front)) (beside (past_of front))) other
+    ∙ ap (λ (t : Bool). cond t (newline (past_of front)) (beside (past_of front))) (not_feed b other)
     ∙ ap beside is
 
 -- bytes without a line feed stand on one line
-at_more : (part front : List ℕ) (line column : ℕ) → NoFeed part → IsAt front line column → IsAt (front ++ part) line (column + length part)
+at_more : (part front : List ℕ) (line column : ℕ) → OnOneLine part → IsAt front line column → IsAt (front ++ part) line (column + length part)
 at_more [] front line column plain is = rw (append-nil front) (is ∙ ap (λ (n : ℕ). record { line = line; column = n }) (omega arith))
 at_more (b ∷ part) front line column plain is =
     let more = at_more part (front ++ b ∷ []) line (column + 1) plain.1 (after_place front b line column plain.0 is) in
@@ -59,27 +55,27 @@ at_next front line column is = ap (λ (s : Spot). s.place) (after_all-append sta
 
 -- ---- the words of one line
 
-space_no_feed : (b : ℕ) → is_space b ≡ true → (b == 10) ≡ false
+space_no_feed : (b : ℕ) → is_space b ≡ true → b ≢ 10
 space_no_feed b is = grind (arith, nat_tests)
 
-blank_no_feed : (b : ℕ) → is_blank b ≡ true → (b == 10) ≡ false
+blank_no_feed : (b : ℕ) → is_blank b ≡ true → b ≢ 10
 blank_no_feed b is = grind (arith, nat_tests)
 
-letter_no_feed : (b : ℕ) → is_word_byte b ≡ true → (b == 10) ≡ false
+letter_no_feed : (b : ℕ) → is_word_byte b ≡ true → b ≢ 10
 letter_no_feed b is = grind (arith, nat_tests)
 
-start_no_feed : (b : ℕ) → is_name_start b ≡ true → (b == 10) ≡ false
+start_no_feed : (b : ℕ) → is_name_start b ≡ true → b ≢ 10
 start_no_feed b is = grind (arith, nat_tests)
 
 all_weaker : (P Q : ℕ → Type 0) → ((b : ℕ) → P b → Q b) → (bytes : List ℕ) → AllByRecursion P bytes → AllByRecursion Q bytes
 all_weaker P Q weaker [] all = tt
 all_weaker P Q weaker (b ∷ bytes) all = (weaker b all.0, all_weaker P Q weaker bytes all.1)
 
-blanks_plain : (bytes : List ℕ) → AllByRecursion (λ b. is_blank b ≡ true) bytes → NoFeed bytes
-blanks_plain = all_weaker (λ b. is_blank b ≡ true) (λ b. (b == 10) ≡ false) blank_no_feed
+blanks_plain : (bytes : List ℕ) → AreBlank bytes → OnOneLine bytes
+blanks_plain = all_weaker (λ b. is_blank b ≡ true) (λ b. b ≢ 10) blank_no_feed
 
-letters_plain : (bytes : List ℕ) → AllByRecursion (λ b. is_word_byte b ≡ true) bytes → NoFeed bytes
-letters_plain = all_weaker (λ b. is_word_byte b ≡ true) (λ b. (b == 10) ≡ false) letter_no_feed
+letters_plain : (bytes : List ℕ) → AreWordBytes bytes → OnOneLine bytes
+letters_plain = all_weaker (λ b. is_word_byte b ≡ true) (λ b. b ≢ 10) letter_no_feed
 
 moved : (whole front part rest : List ℕ) → whole ≡ front ++ (part ++ rest) → whole ≡ (front ++ part) ++ rest
 moved whole front part rest is = is ∙ sym (append_assoc front part rest)
@@ -101,7 +97,7 @@ one_ascends whole front letters rest b line column more whole-is place-is ascend
 names_ascend : {line column : ℕ} {inside : List ℕ} {words : Words} → AreNames line column inside words → (whole front rest : List ℕ) (more : Words) → whole ≡ front ++ (inside ++ rest) → IsAt front line column
     → WordsAscend whole (length front + length inside) more → WordsAscend whole (length front) (words ++ more)
 names_ascend none whole front rest more whole-is place-is ascend = words_lower whole (length front) (length front + 0) more (omega arith) ascend
-names_ascend (space {line = line} {column = column} {b = b} {bytes = bytes} {words = words} is names) whole front rest more whole-is place-is ascend =
+names_ascend (space {line = line} {column = column} {b = b} {rest = bytes} {words = words} is names) whole front rest more whole-is place-is ascend =
     let longer : List ℕ = front ++ b ∷ [] in
     let end-is : length front + length (b ∷ bytes) ≡ length longer + length bytes = omega (arith, length-append front (b ∷ [])) in
     words_lower whole (length front) (length longer) (words ++ more) (omega (arith, length-append front (b ∷ [])))
@@ -133,7 +129,7 @@ line_ascends line bytes dropped rest whole front words more is whole-is place-is
     in
     let lead-at : IsAt led line (1 + length is.lead) = at_more is.lead front line 1 (blanks_plain is.lead is.lead_blank) place-is in
     let column-is : (1 + length is.lead) + 1 ≡ length is.lead + 2 = omega arith in
-    let open-at : IsAt opened line (length is.lead + 2) = after_place led 40 line (1 + length is.lead) refl lead-at ∙ ap (λ (n : ℕ). record { line = line; column = n }) column-is in
+    let open-at : IsAt opened line (length is.lead + 2) = after_place led 40 line (1 + length is.lead) (grind arith) lead-at ∙ ap (λ (n : ℕ). record { line = line; column = n }) column-is in
     let led-is : length led ≡ length front + length is.lead = length-append front is.lead in
     let opened-is : length opened ≡ length led + 1 = length-append led (40 ∷ []) in
     let inner-is : length (is.inside ++ (41 ∷ is.trail)) ≡ length is.inside + length (41 ∷ is.trail) = length-append is.inside (41 ∷ is.trail) in
@@ -148,7 +144,7 @@ kept_of : (b : ℕ) (row : List ℕ) → ((dropped : List ℕ) × (row ≡ kept 
 kept_of b row more true = (b ∷ row, refl)
 kept_of b row more false = (more.0, ap (λ (xs : List ℕ). b ∷ xs) more.1)
 
-kept_front : (row : List ℕ) → (dropped : List ℕ) × (row ≡ kept row ++ dropped)
+pub kept_front : (row : List ℕ) → (dropped : List ℕ) × (row ≡ kept row ++ dropped)
 kept_front [] = ([], refl)
 kept_front (b ∷ row) = kept_of b row (kept_front row) (is_empty_row (b ∷ row))
 
@@ -159,10 +155,10 @@ no_lines (full row line-is more) is = absurd cc
 
 -- the words of some rows ascend, where the rows stand behind a front of the bytes
 abbrev RowsAscend : ℕ → List (List ℕ) → List PlanLine → Type 0
-RowsAscend line rows lines = (whole front : List ℕ) → whole ≡ front ++ join_with_byte 10 rows → AllByRecursion NoFeed rows → IsAt front line 1 → WordsAscend whole (length front) (words_of lines)
+RowsAscend line rows lines = (whole front : List ℕ) → whole ≡ front ++ join_with_byte 10 rows → AllByRecursion OnOneLine rows → IsAt front line 1 → WordsAscend whole (length front) (words_of lines)
 
 tail_ascends : (line : ℕ) (row : List ℕ) (rows : List (List ℕ)) (lines : List PlanLine) → (rows ≡ [] → lines ≡ []) → RowsAscend (line + 1) rows lines → (whole front : List ℕ) → whole ≡ front ++ join_with_byte 10 (row ∷ rows)
-    → NoFeed row → AllByRecursion NoFeed rows → IsAt front line 1 → WordsAscend whole (length front + length row) (words_of lines)
+    → OnOneLine row → AllByRecursion OnOneLine rows → IsAt front line 1 → WordsAscend whole (length front + length row) (words_of lines)
 tail_ascends line row [] lines none-left rest whole front whole-is plain plains place-is =
     let length-is : length whole ≡ length front + length row = ap length whole-is ∙ length-append front row in
     let ends : length front + length row ≤ length whole = omega arith in
@@ -194,15 +190,15 @@ rows_ascend (full {line = line} row {rows = rows} {words = words} {lines = lines
     (tail_ascends line row rows lines (no_lines more) (rows_ascend more) whole front whole-is plains.0 plains.1 place-is))
 
 -- no row has a line feed
-onto_plain : (b : ℕ) (rows : List (List ℕ)) → (b == 10) ≡ false → AllByRecursion NoFeed rows → AllByRecursion NoFeed (onto_first b rows)
+onto_plain : (b : ℕ) (rows : List (List ℕ)) → b ≢ 10 → AllByRecursion OnOneLine rows → AllByRecursion OnOneLine (onto_first b rows)
 onto_plain b [] other plains = ((other, tt), tt)
 onto_plain b (row ∷ rows) other plains = ((other, plains.0), plains.1)
 
-cut_plain : (b : ℕ) (rows : List (List ℕ)) (t : Bool) → (b == 10) ≡ t → AllByRecursion NoFeed rows → AllByRecursion NoFeed (cond t ([] ∷ rows) (onto_first b rows))
+cut_plain : (b : ℕ) (rows : List (List ℕ)) (t : Bool) → (b == 10) ≡ t → AllByRecursion OnOneLine rows → AllByRecursion OnOneLine (cond t ([] ∷ rows) (onto_first b rows))
 cut_plain b rows true is plains = (tt, plains)
-cut_plain b rows false is plains = onto_plain b rows is plains
+cut_plain b rows false is plains = onto_plain b rows (no_feed b is) plains
 
-rows_plain : (bytes : List ℕ) → AllByRecursion NoFeed (rows_of bytes)
+rows_plain : (bytes : List ℕ) → AllByRecursion OnOneLine (rows_of bytes)
 rows_plain [] = (tt, tt)
 rows_plain (b ∷ bytes) = cut_plain b (rows_of bytes) (b == 10) refl (rows_plain bytes)
 

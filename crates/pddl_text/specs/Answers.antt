@@ -21,3 +21,9 @@ abbrev pub AnswersFault : {A : Type 0} → Result A ReadStop → TextFault → T
 AnswersFault (Ok value) due = ⊥
 AnswersFault (Err (stop.Fault fault)) due = fault ≡ due
 AnswersFault (Err stop.NoMemory) due = Unit {0}
+
+-- what a reading on lists gives is answered, unless memory ran out
+abbrev pub Gives : {A : Type 0} → Result A ReadStop → Result A TextFault → Type 0
+Gives (Ok value) read = read ≡ Ok value
+Gives (Err (stop.Fault fault)) read = read ≡ Err fault
+Gives (Err stop.NoMemory) read = Unit {0}

@@ -1,5 +1,6 @@
--- What the bytes of a text are to its words.
-use Rattle.std.specs.Prelude.{ℕ, Bool, ◌==◌, ◌&&◌, ◌||◌, not, nat_le, nat_lt, if◌then◌else◌}
+-- What the bytes of a text are to its words, and the bytes of a plan to its lines.
+use Rattle.std.specs.Prelude.{ℕ, ◌≢◌, Bool, List, ◌==◌, ◌&&◌, ◌||◌, not, nat_le, nat_lt, IsTrue, if◌then◌else◌}
+use Rattle.std.specs.List.{AllByRecursion}
 use Rattle.pddl_text.specs.declared.bytes.ByteKind.{ByteKind}
 use Rattle.pddl_text.specs.declared.bytes.ByteKind.TheVariants.{White, Semicolon, Opening, Closing, Letter, Stray}
 
@@ -35,3 +36,13 @@ kind b =
     else (if b == 40 then Opening
     else (if b == 41 then Closing
     else (if is_word_byte b then Letter else Stray))))
+
+-- the bytes stand on one line
+abbrev pub OnOneLine : List ℕ → Type 0
+OnOneLine bytes = AllByRecursion (λ b. b ≢ 10) bytes
+
+abbrev pub AreWordBytes : List ℕ → Type 0
+AreWordBytes bytes = AllByRecursion (λ b. IsTrue (is_word_byte b)) bytes
+
+abbrev pub AreBlank : List ℕ → Type 0
+AreBlank bytes = AllByRecursion (λ b. IsTrue (is_blank b)) bytes

@@ -7,4 +7,5 @@ pub mod PlanReading
 pub mod Plans
 pub mod Reading
 pub mod Spans
+pub mod Stops
 pub mod Tokens

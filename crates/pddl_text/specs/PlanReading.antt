@@ -1,14 +1,10 @@
 -- How a plan is read, row by row and byte by byte, as functions on lists.
-use Rattle.std.specs.Prelude.{ℕ, ◌+◌, ◌≡◌, Bool, true, false, List, [], ◌∷◌, ◌++◌, length, ◌==◌, ◌&&◌, nat_lt, Option, Some, None, Result, Ok, Err, if◌then◌else◌}
+use Rattle.std.specs.Prelude.{ℕ, ◌+◌, List, [], ◌∷◌, ◌++◌, length, ◌==◌, ◌&&◌, nat_lt, Option, Some, None, Result, Ok, Err, if◌then◌else◌}
 use Rattle.std.specs.Char.{to_ascii_lowercase}
 use Rattle.std.specs.String.{string_bytes}
 use Rattle.mre_base.specs.declared.text.Text.{Text}
 use Rattle.pddl_text.specs.declared.fault.TextFault.{TextFault}
 use Rattle.pddl_text.specs.declared.fault.TextRule.TheVariants as rule
-use Rattle.pddl_text.specs.declared.fault.ReadStop.{ReadStop}
-use Rattle.pddl_text.specs.declared.fault.ReadStop.TheVariants as stop
-use Rattle.pddl_text.specs.declared.fault.Stop.{Stop}
-use Rattle.pddl_text.specs.declared.fault.Stop.TheVariants as early
 use Rattle.pddl_text.specs.declared.place.Place.{Place}
 use Rattle.pddl_text.specs.declared.plan.PlanLine.{PlanLine}
 use Rattle.pddl_text.specs.declared.plan.RowMode.{RowMode}
@@ -51,40 +47,40 @@ row_step (InName text from) words at b =
 row_step Closed words at b = if is_blank b then Some (record { words = words; row = Closed }) else None
 
 -- the end of a row: it was a line of these names, or it ends too early
-abbrev pub row_end : Row → List (Text × Place) → Place → Result (List (Text × Place)) TextFault
+abbrev pub row_end : Row → List (Text × Place) → Place → Result PlanLine TextFault
 row_end Before words at = Err (fault_at at rule.Form)
 row_end Inside words at = Err (fault_at at rule.Form)
 row_end (InName text from) words at = Err (fault_at at rule.Form)
-row_end Closed words at = Ok words
+row_end Closed words at = Ok (record { words = words })
 
 -- the place of the next byte of the line
 abbrev pub beside : Place → Place
 beside at = record { line = at.line; column = at.column + 1 }
 
-abbrev pub goes_on : Option RowState → Place → (RowState → Result (List (Text × Place)) TextFault) → Result (List (Text × Place)) TextFault
+abbrev pub goes_on : Option RowState → Place → (RowState → Result PlanLine TextFault) → Result PlanLine TextFault
 goes_on None at next = Err (fault_at at rule.Form)
 goes_on (Some state) at next = next state
 
--- the names of the rest of a row, from a place on
-abbrev pub row_from : RowState → Place → List ℕ → Result (List (Text × Place)) TextFault
+-- what the rest of a row is read as, from a place on
+abbrev pub row_from : RowState → Place → List ℕ → Result PlanLine TextFault
 row_from state at [] = row_end state.row state.words at
 row_from state at (b ∷ bytes) = goes_on (row_step state.row state.words at b) at (λ next. row_from next (beside at) bytes)
 
 abbrev pub row_start : RowState
 row_start = record { words = []; row = Before }
 
--- the names of a whole row, by what is kept of it
-abbrev pub names_of : ℕ → List ℕ → Result (List (Text × Place)) TextFault
-names_of line bytes = row_from row_start (record { line = line; column = 1 }) bytes
+-- what a whole row is read as, by what is kept of it
+abbrev pub line_of : ℕ → List ℕ → Result PlanLine TextFault
+line_of line bytes = row_from row_start (record { line = line; column = 1 }) bytes
 
-abbrev pub adds : Result (List (Text × Place)) TextFault → List PlanLine → (List PlanLine → Result (List PlanLine) TextFault) → Result (List PlanLine) TextFault
+abbrev pub adds : Result PlanLine TextFault → List PlanLine → (List PlanLine → Result (List PlanLine) TextFault) → Result (List PlanLine) TextFault
 adds (Err fault) lines next = Err fault
-adds (Ok words) lines next = next (lines ++ record { words = words } ∷ [])
+adds (Ok line) lines next = next (lines ++ line ∷ [])
 
 -- the line of one row, by what is kept of it: an empty row has none
 abbrev pub row_then : ℕ → List ℕ → List PlanLine → (List PlanLine → Result (List PlanLine) TextFault) → Result (List PlanLine) TextFault
 row_then line [] lines next = next lines
-row_then line (b ∷ bytes) lines next = adds (names_of line (b ∷ bytes)) lines next
+row_then line (b ∷ bytes) lines next = adds (line_of line (b ∷ bytes)) lines next
 
 -- the rows from a line on, behind the lines so far
 abbrev pub rows_from : List PlanLine → ℕ → List (List ℕ) → Result (List PlanLine) TextFault
@@ -104,20 +100,3 @@ row_in mode.Closed letters = Closed
 -- what a reader has read of its row
 abbrev pub state_of : RowReader → RowState
 state_of reader = record { words = reader.words; row = row_in reader.mode (string_bytes reader.letters) }
-
--- what was found is what is read, unless memory ran out
-abbrev pub FindsNames : Result PlanLine Stop → Result (List (Text × Place)) TextFault → Type 0
-FindsNames (Ok found) read = read ≡ Ok found.words
-FindsNames (Err (early.Fault at rule)) read = read ≡ Err (fault_at at rule)
-FindsNames (Err early.NoMemory) read = Unit {0}
-
-abbrev pub FindsLines : Result (List PlanLine) Stop → Result (List PlanLine) TextFault → Type 0
-FindsLines (Ok found) read = read ≡ Ok found
-FindsLines (Err (early.Fault at rule)) read = read ≡ Err (fault_at at rule)
-FindsLines (Err early.NoMemory) read = Unit {0}
-
--- what was answered is what is read, unless memory ran out
-abbrev pub GivesLines : Result (List PlanLine) ReadStop → Result (List PlanLine) TextFault → Type 0
-GivesLines (Ok found) read = read ≡ Ok found
-GivesLines (Err (stop.Fault fault)) read = read ≡ Err fault
-GivesLines (Err stop.NoMemory) read = Unit {0}

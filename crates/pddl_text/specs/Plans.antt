@@ -1,13 +1,14 @@
 -- Which bytes spell which lines of a plan, and where bytes that spell none leave the form first.
-use Rattle.std.specs.Prelude.{ℕ, ◌+◌, ◌<◌, ◌≡◌, Bool, true, false, List, [], ◌∷◌, ◌++◌, length, ◌==◌, ◌&&◌, ◌||◌, nat_le, IsTrue, if◌then◌else◌}
-use Rattle.std.specs.List.{AllByRecursion, slice_split}
+use Rattle.std.specs.Prelude.{ℕ, ◌+◌, ◌<◌, ◌≡◌, Bool, true, List, [], ◌∷◌, ◌++◌, length, ◌==◌, ◌&&◌, ◌||◌, IsTrue, if◌then◌else◌}
+use Rattle.std.specs.Bool.{IsFalse}
+use Rattle.std.specs.List.{slice_split}
 use Rattle.std.specs.Str.{str_to_ascii_lowercase}
 use Rattle.mre_base.specs.declared.text.Text.{Text}
 use Rattle.pddl_text.specs.declared.fault.TextFault.{TextFault}
 use Rattle.pddl_text.specs.declared.fault.TextRule.TheVariants as rule
 use Rattle.pddl_text.specs.declared.place.Place.{Place}
 use Rattle.pddl_text.specs.declared.plan.PlanLine.{PlanLine}
-use Rattle.pddl_text.specs.Bytes.{is_blank, is_space, is_name_start, is_word_byte}
+use Rattle.pddl_text.specs.Bytes.{is_blank, is_space, is_name_start, AreWordBytes, AreBlank}
 use Rattle.pddl_text.specs.Faults.{fault_at}
 use Rattle.pddl_text.specs.Tokens.{EndsWord}
 
@@ -28,10 +29,15 @@ kept (b ∷ row) = if is_empty_row (b ∷ row) then [] else b ∷ kept row
 -- from this column of a line on, the bytes are these names, with spaces and tabs before, between and behind them
 pub data AreNames : ℕ → ℕ → List ℕ → List (Text × Place) → Type 0 where
   none : {line column : ℕ} → AreNames line column [] []
-  space : {line column b : ℕ} {bytes : List ℕ} {words : List (Text × Place)} → IsTrue (is_space b) → AreNames line (column + 1) bytes words → AreNames line column (b ∷ bytes) words
-  name : {line column : ℕ} (b : ℕ) (letters rest : List ℕ) {words : List (Text × Place)} → IsTrue (is_name_start b) → AllByRecursion (λ c. is_word_byte c ≡ true) letters → EndsWord rest
+  space : {line column b : ℕ} {rest : List ℕ} {words : List (Text × Place)}
+      → IsTrue (is_space b)
+      → AreNames line (column + 1) rest words
+      → AreNames line column (b ∷ rest) words
+  name : {line column : ℕ} (b : ℕ) (letters rest : List ℕ) {words : List (Text × Place)}
+      → IsTrue (is_name_start b) → AreWordBytes letters → EndsWord rest
       → AreNames line (column + length (b ∷ letters)) rest words
-      → AreNames line column (b ∷ letters ++ rest) ((str_to_ascii_lowercase (b ∷ letters), record { line = line; column = column }) ∷ words)
+      → AreNames line column (b ∷ letters ++ rest)
+      ((str_to_ascii_lowercase (b ∷ letters), record { line = line; column = column }) ∷ words)
 
 -- a line of the form: `(`, one name or more, and `)`, maybe with blanks before and behind
 pub record IsLine (line : ℕ) (bytes : List ℕ) (words : List (Text × Place)) : Type 0 where
@@ -39,16 +45,22 @@ pub record IsLine (line : ℕ) (bytes : List ℕ) (words : List (Text × Place))
   pub inside : List ℕ
   pub trail : List ℕ
   pub parts : bytes ≡ lead ++ (40 ∷ (inside ++ (41 ∷ trail)))
-  pub lead_blank : AllByRecursion (λ b. is_blank b ≡ true) lead
-  pub trail_blank : AllByRecursion (λ b. is_blank b ≡ true) trail
+  pub lead_blank : AreBlank lead
+  pub trail_blank : AreBlank trail
   pub names : AreNames line (length lead + 2) inside words
   pub named : 0 < length words
 
--- the rows from this line on spell these lines: an empty row spells none, and what is kept of each other row is a line of the form
+-- the rows from this line on spell these lines of a plan: an empty row spells none, and of each other row what is kept is a line of
+-- the form
 pub data RowsSpell : ℕ → List (List ℕ) → List PlanLine → Type 0 where
   end : {line : ℕ} → RowsSpell line [] []
-  empty : {line : ℕ} {row : List ℕ} {rows : List (List ℕ)} {lines : List PlanLine} → IsTrue (is_empty_row row) → RowsSpell (line + 1) rows lines → RowsSpell line (row ∷ rows) lines
-  full : {line : ℕ} (row : List ℕ) {rows : List (List ℕ)} {words : List (Text × Place)} {lines : List PlanLine} → IsLine line (kept row) words → RowsSpell (line + 1) rows lines
+  empty : {line : ℕ} {row : List ℕ} {rows : List (List ℕ)} {lines : List PlanLine}
+      → IsTrue (is_empty_row row)
+      → RowsSpell (line + 1) rows lines
+      → RowsSpell line (row ∷ rows) lines
+  full : {line : ℕ} (row : List ℕ) {rows : List (List ℕ)} {words : List (Text × Place)} {lines : List PlanLine}
+      → IsLine line (kept row) words
+      → RowsSpell (line + 1) rows lines
       → RowsSpell line (row ∷ rows) (record { words = words } ∷ lines)
 
 -- the bytes spell the lines of a plan
@@ -59,10 +71,10 @@ SpellsPlan bytes lines = RowsSpell 1 (rows_of bytes) lines
 abbrev pub BeginsLine : ℕ → List ℕ → Type 0
 BeginsLine line bytes = (more : List ℕ) × (words : List (Text × Place)) × IsLine line (bytes ++ more) words
 
--- behind the bytes before, no line of the form has the next byte; where there is none, they are no line of the form
+-- no line of the form has the next byte behind the bytes before; where there is none, these are no line of the form
 abbrev pub IsStuck : ℕ → List ℕ → List ℕ → Type 0
-IsStuck line before [] = (words : List (Text × Place)) → IsLine line before words → ⊥
-IsStuck line before (b ∷ rest) = BeginsLine line (before ++ b ∷ []) → ⊥
+IsStuck line before [] = (words : List (Text × Place)) → ¬ IsLine line before words
+IsStuck line before (b ∷ rest) = ¬ BeginsLine line (before ++ b ∷ [])
 
 -- the bytes of a line leave the form at this column, behind bytes with which some line of the form begins
 pub record LeavesForm (line : ℕ) (bytes : List ℕ) (column : ℕ) : Type 0 where
@@ -73,12 +85,19 @@ pub record LeavesForm (line : ℕ) (bytes : List ℕ) (column : ℕ) : Type 0 wh
   pub goes_on : BeginsLine line before
   pub stuck : IsStuck line before rest
 
--- the rows from this line on leave the form first here: each row before is empty or a line of the form
+-- the rows from this line on leave the form first here: what is kept of a row does, behind rows that are empty or lines of the form
 pub data RowsFail : ℕ → List (List ℕ) → TextFault → Type 0 where
-  here : {line : ℕ} (row : List ℕ) {rows : List (List ℕ)} {column : ℕ} → is_empty_row row ≡ false → LeavesForm line (kept row) column
+  here : {line : ℕ} (row : List ℕ) {rows : List (List ℕ)} {column : ℕ}
+      → IsFalse (is_empty_row row) → LeavesForm line (kept row) column
       → RowsFail line (row ∷ rows) (fault_at (record { line = line; column = column }) rule.Form)
-  behind_empty : {line : ℕ} {row : List ℕ} {rows : List (List ℕ)} {fault : TextFault} → IsTrue (is_empty_row row) → RowsFail (line + 1) rows fault → RowsFail line (row ∷ rows) fault
-  behind_full : {line : ℕ} (row : List ℕ) {rows : List (List ℕ)} {words : List (Text × Place)} {fault : TextFault} → IsLine line (kept row) words → RowsFail (line + 1) rows fault → RowsFail line (row ∷ rows) fault
+  behind_empty : {line : ℕ} {row : List ℕ} {rows : List (List ℕ)} {fault : TextFault}
+      → IsTrue (is_empty_row row)
+      → RowsFail (line + 1) rows fault
+      → RowsFail line (row ∷ rows) fault
+  behind_full : {line : ℕ} (row : List ℕ) {rows : List (List ℕ)} {words : List (Text × Place)} {fault : TextFault}
+      → IsLine line (kept row) words
+      → RowsFail (line + 1) rows fault
+      → RowsFail line (row ∷ rows) fault
 
 -- the bytes leave the form of a plan, and here first
 abbrev pub LeavesPlan : List ℕ → TextFault → Type 0

@@ -1,15 +1,11 @@
 -- How a text is read, byte by byte: what is left to be read, as functions on lists.
-use Rattle.std.specs.Prelude.{ℕ, ◌+◌, ◌≡◌, List, [], ◌∷◌, ◌++◌, length, reverse, ◌==◌, nat_lt, Result, Ok, Err, if◌then◌else◌}
+use Rattle.std.specs.Prelude.{ℕ, List, [], ◌∷◌, ◌++◌, length, reverse, ◌==◌, nat_lt, Result, Ok, Err, if◌then◌else◌}
 use Rattle.std.specs.Char.{to_ascii_lowercase}
 use Rattle.std.specs.String.{string_bytes}
 use Rattle.pddl_text.specs.declared.bytes.ByteKind.{ByteKind}
 use Rattle.pddl_text.specs.declared.bytes.ByteKind.TheVariants.{White, Semicolon, Opening, Closing, Letter, Stray as StrayByte}
 use Rattle.pddl_text.specs.declared.fault.TextFault.{TextFault}
 use Rattle.pddl_text.specs.declared.fault.TextRule.TheVariants as rule
-use Rattle.pddl_text.specs.declared.fault.ReadStop.{ReadStop}
-use Rattle.pddl_text.specs.declared.fault.ReadStop.TheVariants as stop
-use Rattle.pddl_text.specs.declared.fault.Stop.{Stop}
-use Rattle.pddl_text.specs.declared.fault.Stop.TheVariants as early
 use Rattle.pddl_text.specs.declared.grove.Frame.{Frame}
 use Rattle.pddl_text.specs.declared.grove.Grove.{Grove}
 use Rattle.pddl_text.specs.declared.place.Place.{Place}
@@ -79,18 +75,14 @@ within_of (mode.InWord from) letters = InWord letters from
 abbrev pub left : Reader → Place → Spot → List ℕ → Result (List Tree) TextFault
 left reader end s bytes = reads reader.grove end (tokens_from (within_of reader.mode (string_bytes reader.letters)) s bytes)
 
+-- the forest of these trees, where the text ends at this place
+abbrev pub with_past : Place → Result (List Tree) TextFault → Result Forest TextFault
+with_past past (Ok trees) = Ok (record { trees = trees; past = past })
+with_past past (Err fault) = Err fault
+
 -- what the bytes of a whole text are read as
 abbrev pub trees_of : List ℕ → Result (List Tree) TextFault
 trees_of bytes = trees_from [] [] (past_of bytes) (tokens_from Nothing start bytes)
 
--- what was found is what is read, unless memory ran out
-abbrev pub Finds : Result Forest Stop → Result (List Tree) TextFault → Place → Type 0
-Finds (Ok forest) read past = (read ≡ Ok forest.trees) × (forest.past ≡ past)
-Finds (Err (early.Fault at rule)) read past = read ≡ Err (fault_at at rule)
-Finds (Err early.NoMemory) read past = Unit {0}
-
--- what was answered is what is read, unless memory ran out
-abbrev pub Gives : Result Forest ReadStop → Result (List Tree) TextFault → Place → Type 0
-Gives (Ok forest) read past = (read ≡ Ok forest.trees) × (forest.past ≡ past)
-Gives (Err (stop.Fault fault)) read past = read ≡ Err fault
-Gives (Err stop.NoMemory) read past = Unit {0}
+abbrev pub forest_of : List ℕ → Result Forest TextFault
+forest_of bytes = with_past (past_of bytes) (trees_of bytes)

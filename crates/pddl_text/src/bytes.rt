@@ -1,8 +1,9 @@
 ghost use Rattle.std.specs.Prelude.{◌≡◌};
+ghost use Rattle.std.specs.Char.{to_ascii_lowercase};
 ghost use Rattle.pddl_text.specs.Bytes.{is_blank, is_name_start, is_space, is_word_byte, kind};
 
 /// What a byte begins where no word and no comment goes on.
-#[derive(Clone, Copy, Debug)]
+#[derive(Clone, Copy)]
 pub enum ByteKind {
     White,
     Semicolon,
@@ -35,6 +36,13 @@ pub fn kind_of(byte: u8) -> ByteKind
     } else {
         ByteKind::Stray
     }
+}
+
+/// The letter of a word that a byte stands for, in lower case.
+pub fn letter_of(byte: u8) -> char
+    ensures { result ≡ to_ascii_lowercase byte }
+{
+    byte.to_ascii_lowercase() as char
 }
 
 /// Whether a byte is dropped at both ends of a plan's line.

@@ -1,5 +1,5 @@
 ghost use Rattle.std.specs.Prelude.{◌≡◌};
-ghost use Rattle.pddl_text.specs.Faults.{Tells};
+ghost use Rattle.pddl_text.specs.Stops.{Tells};
 ghost use Rattle.pddl_text.specs.declared.fault.ReadStop.TheVariants.{NoMemory as Refused};
 ghost use Rattle.pddl_text.specs.declared.fault.Stop.TheVariants.{NoMemory as Stopped};
 
@@ -57,6 +57,22 @@ impl From<NoMemory> for ReadStop {
     ghost from_gives = { λ _ stop. stop ≡ Refused };
 
     fn from(_refusal: NoMemory) -> ReadStop {
+        ReadStop::NoMemory
+    }
+}
+
+impl From<AllocError> for ReadStop {
+    ghost from_gives = { λ _ stop. stop ≡ Refused };
+
+    fn from(_refusal: AllocError) -> ReadStop {
+        ReadStop::NoMemory
+    }
+}
+
+impl<T: Drop> From<AllocFailed<T>> for ReadStop {
+    ghost from_gives = { λ _ stop. stop ≡ Refused };
+
+    fn from(_refusal: AllocFailed<T>) -> ReadStop {
         ReadStop::NoMemory
     }
 }

@@ -1,6 +1,6 @@
 ghost use Rattle.std.specs.Prelude.{◌≡◌, ℕ, List as ListOf, ◌∷◌, OnOk, Err};
-ghost use Rattle.pddl_text.specs.Faults.{IfStopped};
 ghost use Rattle.pddl_text.specs.Reading.{reads};
+ghost use Rattle.pddl_text.specs.Stops.{IfStopped};
 ghost use Rattle.pddl_text.specs.Tokens as token;
 ghost use Rattle.pddl_text.specs.declared.place.Place as place;
 

@@ -8,6 +8,8 @@ mod laws;
 mod place;
 mod plan;
 mod reading;
+#[cfg(test)]
+mod tests;
 mod tree;
 
 pub use fault::{ReadStop, TextFault, TextRule};

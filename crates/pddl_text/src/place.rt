@@ -8,7 +8,7 @@ pub struct Place {
 }
 
 /// Where the next byte of a text stands, and how many bytes are before it.
-#[derive(Clone, Copy, Debug)]
+#[derive(Clone, Copy)]
 pub struct Spot {
     pub place: Place,
     pub position: u32,

@@ -1,14 +1,15 @@
-ghost use Rattle.std.specs.Prelude.{◌≡◌, ◌+◌, ◌^◌, ◌<◌, ◌≤◌, ◌∷◌, ◌++◌, [], length, IfOk, OnOk, Some, None, Err, ℕ, List as ListOf};
+ghost use Rattle.std.specs.Prelude.{◌≡◌, ◌+◌, ◌^◌, ◌<◌, ◌≤◌, ◌∷◌, ◌++◌, [], length, All, IfOk, OnOk, Some, None, Err, ℕ, List as ListOf};
 ghost use Rattle.std.specs.String.{string_bytes};
-ghost use Rattle.pddl_text.specs.Answers.{IfFault, AnswersOk, AnswersFault};
-ghost use Rattle.pddl_text.specs.Faults.{IfStopped, fault_at};
-ghost use Rattle.pddl_text.specs.PlanReading.{row_step, inside_step, row_end, names_of, rows_from, lines_of, state_of, FindsNames, FindsLines, GivesLines};
+ghost use Rattle.pddl_text.specs.Answers.{IfFault, AnswersOk, AnswersFault, Gives};
+ghost use Rattle.pddl_text.specs.Faults.{fault_at};
+ghost use Rattle.pddl_text.specs.PlanReading.{row_step, inside_step, row_end, line_of, rows_from, lines_of, state_of};
 ghost use Rattle.pddl_text.specs.Plans.{kept, SpellsPlan, LeavesPlan};
 ghost use Rattle.pddl_text.specs.Spans.{WordsAscend, words_of};
+ghost use Rattle.pddl_text.specs.Stops.{IfStopped, Finds};
 ghost use Rattle.pddl_text.specs.declared.fault.TextFault as faults;
 ghost use Rattle.pddl_text.specs.declared.plan.PlanLine as plan;
 
-use crate::bytes::{is_blank, is_name_start, is_space, is_word_byte};
+use crate::bytes::{is_blank, is_name_start, is_space, is_word_byte, letter_of};
 use crate::fault::Stop;
 use crate::{Place, ReadStop, TextRule};
 use mre_base::{List, NoMemory, Text};
@@ -37,6 +38,16 @@ pub struct RowReader {
     pub words: List<(Text, Place)>,
 }
 
+/// At this place no line of the form goes on.
+fn no_form(at: Place) -> Stop
+    ensures { result ≡ Stop.Fault at TextRule.Form }
+{
+    Stop::Fault {
+        at,
+        rule: TextRule::Form,
+    }
+}
+
 impl RowReader {
     /// Takes a byte inside the parentheses where no name goes on.
     fn inside(&mut self, at: Place, byte: u8) -> Result<(), Stop>
@@ -54,14 +65,11 @@ impl RowReader {
         }
         if is_name_start(byte) {
             self.letters.clear();
-            self.letters.push(byte.to_ascii_lowercase() as char)?;
+            self.letters.push(letter_of(byte))?;
             self.mode = RowMode::InName { from: at };
             return Ok(());
         }
-        Err(Stop::Fault {
-            at,
-            rule: TextRule::Form,
-        })
+        Err(no_form(at))
     }
 
     /// Takes the name that ended before this byte.
@@ -85,60 +93,32 @@ impl RowReader {
             × (fault ≡ fault_at at TextRule.Form)) }
     {
         match self.mode {
-            RowMode::Before => {
-                if is_blank(byte) {
-                    Ok(())
-                } else if byte == b'(' {
-                    self.mode = RowMode::Inside;
-                    Ok(())
-                } else {
-                    Err(Stop::Fault {
-                        at,
-                        rule: TextRule::Form,
-                    })
-                }
+            RowMode::Before if is_blank(byte) => Ok(()),
+            RowMode::Before if byte == b'(' => {
+                self.mode = RowMode::Inside;
+                Ok(())
             }
             RowMode::Inside => self.inside(at, byte),
+            RowMode::InName { .. } if is_word_byte(byte) => {
+                self.letters.push(letter_of(byte))?;
+                Ok(())
+            }
             RowMode::InName { from } => {
-                if is_word_byte(byte) {
-                    self.letters.push(byte.to_ascii_lowercase() as char)?;
-                    Ok(())
-                } else {
-                    self.end_name(alloc, from)?;
-                    self.inside(at, byte)
-                }
+                self.end_name(alloc, from)?;
+                self.inside(at, byte)
             }
-            RowMode::Closed => {
-                if is_blank(byte) {
-                    Ok(())
-                } else {
-                    Err(Stop::Fault {
-                        at,
-                        rule: TextRule::Form,
-                    })
-                }
-            }
+            RowMode::Closed if is_blank(byte) => Ok(()),
+            RowMode::Before | RowMode::Closed => Err(no_form(at)),
         }
     }
 
     /// The line, once its row has ended at this place.
     fn end(self, at: Place) -> Result<PlanLine, Stop>
-        ensures { FindsNames result (row_end (state_of self).row self.words at) }
+        ensures { Finds result (row_end (state_of self).row self.words at) }
     {
         match self.mode {
             RowMode::Closed => Ok(PlanLine { words: self.words }),
-            RowMode::Before => Err(Stop::Fault {
-                at,
-                rule: TextRule::Form,
-            }),
-            RowMode::Inside => Err(Stop::Fault {
-                at,
-                rule: TextRule::Form,
-            }),
-            RowMode::InName { .. } => Err(Stop::Fault {
-                at,
-                rule: TextRule::Form,
-            }),
+            RowMode::Before | RowMode::Inside | RowMode::InName { .. } => Err(no_form(at)),
         }
     }
 }
@@ -163,7 +143,7 @@ fn kept(row: &[u8]) -> &[u8]
 /// The line that the kept bytes of a row are.
 fn read_row(alloc: Global, line: u32, row: &[u8]) -> Result<PlanLine, Stop>
     requires short { length row.now < 2 ^ 28 }
-    ensures { FindsNames result (names_of line row.now) }
+    ensures { Finds result (line_of line row.now) }
 {
     let mut reader = RowReader {
         mode: RowMode::Before,
@@ -202,7 +182,7 @@ fn take_row(alloc: Global, lines: &mut List<PlanLine>, line: u32, row: &[u8]) ->
 /// What the bytes of a whole plan are read as.
 fn read_rows(alloc: Global, bytes: &[u8]) -> Result<List<PlanLine>, Stop>
     requires short { length bytes.now < 2 ^ 28 }
-    ensures { FindsLines result (lines_of bytes.now) }
+    ensures { Finds result (lines_of bytes.now) }
 {
     let mut lines = List::empty(alloc);
     let mut line = 1;
@@ -223,7 +203,7 @@ fn read_rows(alloc: Global, bytes: &[u8]) -> Result<List<PlanLine>, Stop>
 /// What the bytes of a whole plan are read as, as a reader answers it.
 fn read_told(alloc: Global, bytes: &[u8]) -> Result<List<PlanLine>, ReadStop>
     requires short { length bytes.now < 2 ^ 28 }
-    ensures exact { GivesLines result (lines_of bytes.now) }
+    ensures { Gives result (lines_of bytes.now) }
 {
     match read_rows(alloc, bytes) {
         Ok(lines) => Ok(lines),
@@ -247,6 +227,11 @@ pub fn read_plan_lines(alloc: Global, bytes: &[u8]) -> Result<List<PlanLine>, Re
 
     // Each word is the lower case of its slice of the bytes, and the slices ascend.
     ensures words { IfOk result (λ lines. WordsAscend bytes.now 0 (words_of lines)) }
+
+    // Each line has a word, the action's name, and the lines and words are no more than the bytes.
+    ensures named { IfOk result (λ lines. All (λ line. 0 < length line.words) lines) }
+    ensures few { IfOk result (λ lines.
+        length lines + length (words_of lines) ≤ length bytes.now) }
 {
     read_told(alloc, bytes)
 }

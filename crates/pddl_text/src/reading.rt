@@ -1,18 +1,18 @@
-ghost use Rattle.std.specs.Prelude.{◌≡◌, ◌+◌, ◌^◌, ◌<◌, ℕ, List as ListOf, ◌∷◌, [], length, IfOk, OnOk, Err};
+ghost use Rattle.std.specs.Prelude.{◌≡◌, ◌+◌, ◌^◌, ◌<◌, ◌≤◌, ℕ, List as ListOf, ◌∷◌, [], length, IfOk, OnOk, Err};
 ghost use Rattle.std.specs.String.{string_bytes};
 ghost use Rattle.std.specs.List.{AllByRecursion};
-ghost use Rattle.pddl_text.specs.Answers.{IfFault, AnswersOk, AnswersFault};
-ghost use Rattle.pddl_text.specs.Faults.{IfStopped};
+ghost use Rattle.pddl_text.specs.Answers.{IfFault, AnswersOk, AnswersFault, Gives};
 ghost use Rattle.pddl_text.specs.Forests.{Spells, IsFirstFault, tokens_of_all};
-ghost use Rattle.pddl_text.specs.Places.{after, past_of};
-ghost use Rattle.pddl_text.specs.Reading.{left, reads, trees_of, Finds, Gives};
+ghost use Rattle.pddl_text.specs.Places.{after};
+ghost use Rattle.pddl_text.specs.Reading.{left, reads, with_past, forest_of};
 ghost use Rattle.pddl_text.specs.Spans.{StandsIn, SpansAscend};
+ghost use Rattle.pddl_text.specs.Stops.{IfStopped, Finds};
 ghost use Rattle.pddl_text.specs.Tokens.{EndsWord};
 ghost use Rattle.pddl_text.specs.declared.fault.TextFault as faults;
 ghost use Rattle.pddl_text.specs.declared.place.Place as place;
 ghost use Rattle.pddl_text.specs.declared.tree.Forest as tree;
 
-use crate::bytes::{ByteKind, is_word_byte, kind_of};
+use crate::bytes::{ByteKind, is_word_byte, kind_of, letter_of};
 use crate::fault::Stop;
 use crate::grove::Grove;
 use crate::place::Spot;
@@ -55,7 +55,7 @@ impl Reader {
             ByteKind::Closing => self.grove.close(spot.place),
             ByteKind::Letter => {
                 self.letters.clear();
-                self.letters.push(byte.to_ascii_lowercase() as char)?;
+                self.letters.push(letter_of(byte))?;
                 self.mode = Mode::InWord { from: spot };
                 Ok(())
             }
@@ -96,7 +96,7 @@ impl Reader {
             }
             Mode::InWord { from } => {
                 if is_word_byte(byte) {
-                    self.letters.push(byte.to_ascii_lowercase() as char)?;
+                    self.letters.push(letter_of(byte))?;
                     Ok(())
                 } else {
                     self.end_word(alloc, from, spot)?;
@@ -108,7 +108,7 @@ impl Reader {
 
     /// The forest, once no word goes on and the bytes have ended.
     fn finish(self, past: Place) -> Result<Forest, Stop>
-        ensures { Finds result (reads self.grove past []) past }
+        ensures { Finds result (with_past past (reads self.grove past [])) }
     {
         let mut grove = self.grove;
         match grove.frames.pop() {
@@ -125,7 +125,7 @@ impl Reader {
 
     /// The forest, once the bytes have ended.
     fn end(self, alloc: Global, spot: Spot) -> Result<Forest, Stop>
-        ensures { Finds result (left self spot.place spot []) spot.place }
+        ensures { Finds result (with_past spot.place (left self spot.place spot [])) }
     {
         let mut reader = self;
         match reader.mode {
@@ -142,7 +142,7 @@ impl Reader {
 /// What the bytes of a whole text are read as.
 fn read_whole(alloc: Global, bytes: &[u8]) -> Result<Forest, Stop>
     requires short { length bytes.now < 2 ^ 28 }
-    ensures exact { Finds result (trees_of bytes.now) (past_of bytes.now) }
+    ensures { Finds result (forest_of bytes.now) }
 {
     let mut reader = Reader {
         grove: Grove {
@@ -163,7 +163,7 @@ fn read_whole(alloc: Global, bytes: &[u8]) -> Result<Forest, Stop>
 /// What a whole text is read as, as a reader answers it.
 fn read_told(alloc: Global, bytes: &[u8]) -> Result<Forest, ReadStop>
     requires short { length bytes.now < 2 ^ 28 }
-    ensures exact { Gives result (trees_of bytes.now) (past_of bytes.now) }
+    ensures { Gives result (forest_of bytes.now) }
 {
     match read_whole(alloc, bytes) {
         Ok(forest) => Ok(forest),
@@ -189,6 +189,8 @@ pub fn read_forest(alloc: Global, bytes: &[u8]) -> Result<Forest, ReadStop>
         AllByRecursion (StandsIn bytes.now) (tokens_of_all forest.trees)) }
     ensures spans { IfOk result (λ forest.
         SpansAscend 0 (length bytes.now) (tokens_of_all forest.trees)) }
+    ensures few { IfOk result (λ forest.
+        length (tokens_of_all forest.trees) ≤ length bytes.now) }
 {
     read_told(alloc, bytes)
 }

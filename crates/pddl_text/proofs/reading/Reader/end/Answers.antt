@@ -1,4 +1,4 @@
-use Rattle.std.proofs.Common.{◌≡◌, []}
+use Rattle.std.proofs.Common.{[]}
 use Rattle.pddl_text.proofs.reading.Reader.end.Goals as goal
 
 pub returns-in-Ok : goal.returns-in-Ok
