@@ -26,7 +26,9 @@ is_space b = b == 32 || b == 9
 
 -- a letter, a digit or `_`
 abbrev pub is_name_start : ℕ → Bool
-is_name_start b = nat_le 65 b && nat_le b 90 || nat_le 97 b && nat_le b 122 || nat_le 48 b && nat_le b 57 || b == 95
+is_name_start b =
+    nat_le 65 b && nat_le b 90 || nat_le 97 b && nat_le b 122 || nat_le 48 b && nat_le b 57
+    || b == 95
 
 -- what a byte begins where no word and no comment goes on
 abbrev pub kind : ℕ → ByteKind

@@ -42,18 +42,19 @@ height = fold-Tree ℕ height_step
 abbrev pub height_of_all : List Tree → ℕ
 height_of_all trees = greatest (map height trees)
 
--- the bytes spell the forest: they have its tokens, at most 64 lists are open at once, and it ends where they end
+-- the bytes spell the forest: they have its tokens and end, and at most 64 lists are open at once
 pub record Spells (bytes : List ℕ) (forest : Forest) : Type 0 where
   pub tokens : HasTokens start bytes (tokens_of_all forest.trees)
   pub shallow : height_of_all forest.trees ≤ 64
   pub past : forest.past ≡ past_of bytes
 
--- the first fault of the tokens, where this many lists are open before them and the text ends at this place
+-- the first fault of the tokens behind this many open lists, in a text that ends at this place
 abbrev pub first_fault : ℕ → Place → List Token → Option TextFault
 first_fault zero end [] = None
 first_fault (suc lists) end [] = Some (fault_at end rule.Open)
 first_fault lists end (Word text at first past ∷ tokens) = first_fault lists end tokens
-first_fault lists end (Open at ∷ tokens) = if nat_lt lists 64 then first_fault (suc lists) end tokens else Some (fault_at at rule.Deep)
+first_fault lists end (Open at ∷ tokens) =
+    if nat_lt lists 64 then first_fault (suc lists) end tokens else Some (fault_at at rule.Deep)
 first_fault zero end (Close at ∷ tokens) = Some (fault_at at rule.Close)
 first_fault (suc lists) end (Close at ∷ tokens) = first_fault lists end tokens
 first_fault lists end (Stray at ∷ tokens) = Some (fault_at at rule.Byte)

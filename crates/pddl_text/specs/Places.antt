@@ -10,7 +10,9 @@ start = record { place = record { line = 1; column = 1 }; position = 0 }
 -- where the byte behind this one stands: a line feed ends a line, and a column counts bytes
 abbrev pub after : Spot → ℕ → Spot
 after s b = record {
-  place = if b == 10 then record { line = s.place.line + 1; column = 1 } else record { line = s.place.line; column = s.place.column + 1 };
+  place =
+      if b == 10 then record { line = s.place.line + 1; column = 1 }
+      else record { line = s.place.line; column = s.place.column + 1 };
   position = s.position + 1;
 }
 

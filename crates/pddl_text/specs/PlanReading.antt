@@ -2,7 +2,6 @@
 use Rattle.std.specs.Prelude.{ℕ, ◌+◌, List, [], ◌∷◌, ◌++◌, length, ◌==◌, ◌&&◌, nat_lt, Option, Some, None, Result, Ok, Err, if◌then◌else◌}
 use Rattle.std.specs.Char.{to_ascii_lowercase}
 use Rattle.std.specs.String.{string_bytes}
-use Rattle.mre_base.specs.declared.text.Text.{Text}
 use Rattle.pddl_text.specs.declared.fault.TextFault.{TextFault}
 use Rattle.pddl_text.specs.declared.fault.TextRule.TheVariants as rule
 use Rattle.pddl_text.specs.declared.place.Place.{Place}
@@ -12,7 +11,7 @@ use Rattle.pddl_text.specs.declared.plan.RowMode.TheVariants as mode
 use Rattle.pddl_text.specs.declared.plan.RowReader.{RowReader}
 use Rattle.pddl_text.specs.Bytes.{is_blank, is_space, is_name_start, is_word_byte}
 use Rattle.pddl_text.specs.Faults.{fault_at}
-use Rattle.pddl_text.specs.Plans.{kept, rows_of}
+use Rattle.pddl_text.specs.Plans.{Words, kept, rows_of}
 
 -- what the bytes of a row so far end in; of a name, its letters so far and where it began
 pub data Row : Type 0 where
@@ -23,31 +22,34 @@ pub data Row : Type 0 where
 
 -- the names so far of a row, and what its bytes so far end in
 pub record RowState : Type 0 where
-  pub words : List (Text × Place)
+  pub words : Words
   pub row : Row
 
 -- a byte inside the parentheses where no name goes on
-abbrev pub inside_step : List (Text × Place) → Place → ℕ → Option RowState
+abbrev pub inside_step : Words → Place → ℕ → Option RowState
 inside_step words at b =
     if is_space b then Some (record { words = words; row = Inside })
     else (if b == 41 && nat_lt 0 (length words) then Some (record { words = words; row = Closed })
-    else (if is_name_start b then Some (record { words = words; row = InName (to_ascii_lowercase b ∷ []) at })
+    else (if is_name_start b then
+    Some (record { words = words; row = InName (to_ascii_lowercase b ∷ []) at })
     else None))
 
 -- the next byte of a row, where some line of the form has it
-abbrev pub row_step : Row → List (Text × Place) → Place → ℕ → Option RowState
+abbrev pub row_step : Row → Words → Place → ℕ → Option RowState
 row_step Before words at b =
     if is_blank b then Some (record { words = words; row = Before })
     else (if b == 40 then Some (record { words = words; row = Inside })
     else None)
 row_step Inside words at b = inside_step words at b
 row_step (InName text from) words at b =
-    if is_word_byte b then Some (record { words = words; row = InName (text ++ to_ascii_lowercase b ∷ []) from })
+    if is_word_byte b then
+    Some (record { words = words; row = InName (text ++ to_ascii_lowercase b ∷ []) from })
     else inside_step (words ++ (text, from) ∷ []) at b
-row_step Closed words at b = if is_blank b then Some (record { words = words; row = Closed }) else None
+row_step Closed words at b =
+    if is_blank b then Some (record { words = words; row = Closed }) else None
 
 -- the end of a row: it was a line of these names, or it ends too early
-abbrev pub row_end : Row → List (Text × Place) → Place → Result PlanLine TextFault
+abbrev pub row_end : Row → Words → Place → Result PlanLine TextFault
 row_end Before words at = Err (fault_at at rule.Form)
 row_end Inside words at = Err (fault_at at rule.Form)
 row_end (InName text from) words at = Err (fault_at at rule.Form)
@@ -57,14 +59,16 @@ row_end Closed words at = Ok (record { words = words })
 abbrev pub beside : Place → Place
 beside at = record { line = at.line; column = at.column + 1 }
 
-abbrev pub goes_on : Option RowState → Place → (RowState → Result PlanLine TextFault) → Result PlanLine TextFault
+abbrev pub goes_on : Option RowState → Place → (RowState → Result PlanLine TextFault)
+    → Result PlanLine TextFault
 goes_on None at next = Err (fault_at at rule.Form)
 goes_on (Some state) at next = next state
 
 -- what the rest of a row is read as, from a place on
 abbrev pub row_from : RowState → Place → List ℕ → Result PlanLine TextFault
 row_from state at [] = row_end state.row state.words at
-row_from state at (b ∷ bytes) = goes_on (row_step state.row state.words at b) at (λ next. row_from next (beside at) bytes)
+row_from state at (b ∷ bytes) =
+    goes_on (row_step state.row state.words at b) at (λ next. row_from next (beside at) bytes)
 
 abbrev pub row_start : RowState
 row_start = record { words = []; row = Before }
@@ -73,19 +77,22 @@ row_start = record { words = []; row = Before }
 abbrev pub line_of : ℕ → List ℕ → Result PlanLine TextFault
 line_of line bytes = row_from row_start (record { line = line; column = 1 }) bytes
 
-abbrev pub adds : Result PlanLine TextFault → List PlanLine → (List PlanLine → Result (List PlanLine) TextFault) → Result (List PlanLine) TextFault
+abbrev pub adds : Result PlanLine TextFault → List PlanLine
+    → (List PlanLine → Result (List PlanLine) TextFault) → Result (List PlanLine) TextFault
 adds (Err fault) lines next = Err fault
 adds (Ok line) lines next = next (lines ++ line ∷ [])
 
 -- the line of one row, by what is kept of it: an empty row has none
-abbrev pub row_then : ℕ → List ℕ → List PlanLine → (List PlanLine → Result (List PlanLine) TextFault) → Result (List PlanLine) TextFault
+abbrev pub row_then : ℕ → List ℕ → List PlanLine
+    → (List PlanLine → Result (List PlanLine) TextFault) → Result (List PlanLine) TextFault
 row_then line [] lines next = next lines
 row_then line (b ∷ bytes) lines next = adds (line_of line (b ∷ bytes)) lines next
 
 -- the rows from a line on, behind the lines so far
 abbrev pub rows_from : List PlanLine → ℕ → List (List ℕ) → Result (List PlanLine) TextFault
 rows_from lines line [] = Ok lines
-rows_from lines line (row ∷ rows) = row_then line (kept row) lines (λ more. rows_from more (line + 1) rows)
+rows_from lines line (row ∷ rows) =
+    row_then line (kept row) lines (λ more. rows_from more (line + 1) rows)
 
 -- what the bytes of a whole plan are read as
 abbrev pub lines_of : List ℕ → Result (List PlanLine) TextFault
@@ -99,4 +106,5 @@ row_in mode.Closed letters = Closed
 
 -- what a reader has read of its row
 abbrev pub state_of : RowReader → RowState
-state_of reader = record { words = reader.words; row = row_in reader.mode (string_bytes reader.letters) }
+state_of reader =
+    record { words = reader.words; row = row_in reader.mode (string_bytes reader.letters) }

@@ -26,21 +26,27 @@ abbrev pub kept : List ℕ → List ℕ
 kept [] = []
 kept (b ∷ row) = if is_empty_row (b ∷ row) then [] else b ∷ kept row
 
--- from this column of a line on, the bytes are these names, with spaces and tabs before, between and behind them
-pub data AreNames : ℕ → ℕ → List ℕ → List (Text × Place) → Type 0 where
+-- words, each with the place of its first byte
+abbrev pub Words : Type 0
+Words = List (Text × Place)
+
+-- from this column of a line on, the bytes are these names
+pub data AreNames : ℕ → ℕ → List ℕ → Words → Type 0 where
   none : {line column : ℕ} → AreNames line column [] []
-  space : {line column b : ℕ} {rest : List ℕ} {words : List (Text × Place)}
+  -- spaces and tabs stand before, between and behind them
+  space : {line column b : ℕ} {rest : List ℕ} {words : Words}
       → IsTrue (is_space b)
       → AreNames line (column + 1) rest words
       → AreNames line column (b ∷ rest) words
-  name : {line column : ℕ} (b : ℕ) (letters rest : List ℕ) {words : List (Text × Place)}
+  -- a name is a longest run of word bytes that begins with a letter, a digit or `_`
+  name : {line column : ℕ} (b : ℕ) (letters rest : List ℕ) {words : Words}
       → IsTrue (is_name_start b) → AreWordBytes letters → EndsWord rest
       → AreNames line (column + length (b ∷ letters)) rest words
       → AreNames line column (b ∷ letters ++ rest)
       ((str_to_ascii_lowercase (b ∷ letters), record { line = line; column = column }) ∷ words)
 
 -- a line of the form: `(`, one name or more, and `)`, maybe with blanks before and behind
-pub record IsLine (line : ℕ) (bytes : List ℕ) (words : List (Text × Place)) : Type 0 where
+pub record IsLine (line : ℕ) (bytes : List ℕ) (words : Words) : Type 0 where
   pub lead : List ℕ
   pub inside : List ℕ
   pub trail : List ℕ
@@ -50,15 +56,16 @@ pub record IsLine (line : ℕ) (bytes : List ℕ) (words : List (Text × Place))
   pub names : AreNames line (length lead + 2) inside words
   pub named : 0 < length words
 
--- the rows from this line on spell these lines of a plan: an empty row spells none, and of each other row what is kept is a line of
--- the form
+-- the rows from this line on spell these lines of a plan
 pub data RowsSpell : ℕ → List (List ℕ) → List PlanLine → Type 0 where
   end : {line : ℕ} → RowsSpell line [] []
+  -- an empty row spells no line
   empty : {line : ℕ} {row : List ℕ} {rows : List (List ℕ)} {lines : List PlanLine}
       → IsTrue (is_empty_row row)
       → RowsSpell (line + 1) rows lines
       → RowsSpell line (row ∷ rows) lines
-  full : {line : ℕ} (row : List ℕ) {rows : List (List ℕ)} {words : List (Text × Place)} {lines : List PlanLine}
+  -- what is kept of any other row is a line of the form
+  full : {line : ℕ} (row : List ℕ) {rows : List (List ℕ)} {words : Words} {lines : List PlanLine}
       → IsLine line (kept row) words
       → RowsSpell (line + 1) rows lines
       → RowsSpell line (row ∷ rows) (record { words = words } ∷ lines)
@@ -69,14 +76,14 @@ SpellsPlan bytes lines = RowsSpell 1 (rows_of bytes) lines
 
 -- some line of the form begins with these bytes
 abbrev pub BeginsLine : ℕ → List ℕ → Type 0
-BeginsLine line bytes = (more : List ℕ) × (words : List (Text × Place)) × IsLine line (bytes ++ more) words
+BeginsLine line bytes = (more : List ℕ) × (words : Words) × IsLine line (bytes ++ more) words
 
--- no line of the form has the next byte behind the bytes before; where there is none, these are no line of the form
+-- behind the bytes before, no line of the form has the next byte; at their end, they are no line
 abbrev pub IsStuck : ℕ → List ℕ → List ℕ → Type 0
-IsStuck line before [] = (words : List (Text × Place)) → ¬ IsLine line before words
+IsStuck line before [] = (words : Words) → ¬ IsLine line before words
 IsStuck line before (b ∷ rest) = ¬ BeginsLine line (before ++ b ∷ [])
 
--- the bytes of a line leave the form at this column, behind bytes with which some line of the form begins
+-- the bytes leave the form at this column, behind bytes with which some line of the form begins
 pub record LeavesForm (line : ℕ) (bytes : List ℕ) (column : ℕ) : Type 0 where
   pub before : List ℕ
   pub rest : List ℕ
@@ -85,16 +92,19 @@ pub record LeavesForm (line : ℕ) (bytes : List ℕ) (column : ℕ) : Type 0 wh
   pub goes_on : BeginsLine line before
   pub stuck : IsStuck line before rest
 
--- the rows from this line on leave the form first here: what is kept of a row does, behind rows that are empty or lines of the form
+-- the rows from this line on leave the form, and here first
 pub data RowsFail : ℕ → List (List ℕ) → TextFault → Type 0 where
+  -- what is kept of a row leaves the form
   here : {line : ℕ} (row : List ℕ) {rows : List (List ℕ)} {column : ℕ}
       → IsFalse (is_empty_row row) → LeavesForm line (kept row) column
-      → RowsFail line (row ∷ rows) (fault_at (record { line = line; column = column }) rule.Form)
+      → RowsFail line (row ∷ rows)
+      (fault_at (record { line = line; column = column }) rule.Form)
+  -- each row before is empty or a line of the form
   behind_empty : {line : ℕ} {row : List ℕ} {rows : List (List ℕ)} {fault : TextFault}
       → IsTrue (is_empty_row row)
       → RowsFail (line + 1) rows fault
       → RowsFail line (row ∷ rows) fault
-  behind_full : {line : ℕ} (row : List ℕ) {rows : List (List ℕ)} {words : List (Text × Place)} {fault : TextFault}
+  behind_full : {line : ℕ} (row : List ℕ) {rows : List (List ℕ)} {words : Words} {fault : TextFault}
       → IsLine line (kept row) words
       → RowsFail (line + 1) rows fault
       → RowsFail line (row ∷ rows) fault

@@ -46,20 +46,26 @@ tokens_after text from b s next =
 abbrev pub tokens_from : Within → Spot → List ℕ → List Token
 tokens_from (InWord text from) s [] = Word text from.place from.position s.position ∷ []
 tokens_from within s [] = []
-tokens_from Nothing s (b ∷ bytes) = tokens_at (kind b) s b (λ next. tokens_from next (after s b) bytes)
-tokens_from Comment s (b ∷ bytes) = tokens_from (if b == 10 then Nothing else Comment) (after s b) bytes
-tokens_from (InWord text from) s (b ∷ bytes) = tokens_after text from b s (λ next. tokens_from next (after s b) bytes)
+tokens_from Nothing s (b ∷ bytes) =
+    tokens_at (kind b) s b (λ next. tokens_from next (after s b) bytes)
+tokens_from Comment s (b ∷ bytes) =
+    tokens_from (if b == 10 then Nothing else Comment) (after s b) bytes
+tokens_from (InWord text from) s (b ∷ bytes) =
+    tokens_after text from b s (λ next. tokens_from next (after s b) bytes)
 
--- the trees of the tokens, behind the lists that are open, the innermost first, and the trees so far of the innermost
+-- the trees of the tokens behind open lists, the innermost first, and the trees so far of that one
 abbrev pub trees_from : List Frame → List Tree → Place → List Token → Result (List Tree) TextFault
 trees_from [] trees end [] = Ok trees
 trees_from (frame ∷ frames) trees end [] = Err (fault_at end rule.Open)
-trees_from frames trees end (Word text at first past ∷ tokens) = trees_from frames (trees ++ tree.Word text at first past ∷ []) end tokens
+trees_from frames trees end (Word text at first past ∷ tokens) =
+    trees_from frames (trees ++ tree.Word text at first past ∷ []) end tokens
 trees_from frames trees end (Open at ∷ tokens) =
-    if nat_lt (length frames) 64 then trees_from (record { at = at; before = trees } ∷ frames) [] end tokens
+    if nat_lt (length frames) 64 then
+    trees_from (record { at = at; before = trees } ∷ frames) [] end tokens
     else Err (fault_at at rule.Deep)
 trees_from [] trees end (Close at ∷ tokens) = Err (fault_at at rule.Close)
-trees_from (frame ∷ frames) trees end (Close at ∷ tokens) = trees_from frames (frame.before ++ tree.Items trees frame.at at ∷ []) end tokens
+trees_from (frame ∷ frames) trees end (Close at ∷ tokens) =
+    trees_from frames (frame.before ++ tree.Items trees frame.at at ∷ []) end tokens
 trees_from frames trees end (Stray at ∷ tokens) = Err (fault_at at rule.Byte)
 
 -- what is read behind the lists of a grove
@@ -73,7 +79,8 @@ within_of (mode.InWord from) letters = InWord letters from
 
 -- what a reader has still to read
 abbrev pub left : Reader → Place → Spot → List ℕ → Result (List Tree) TextFault
-left reader end s bytes = reads reader.grove end (tokens_from (within_of reader.mode (string_bytes reader.letters)) s bytes)
+left reader end s bytes =
+    reads reader.grove end (tokens_from (within_of reader.mode (string_bytes reader.letters)) s bytes)
 
 -- the forest of these trees, where the text ends at this place
 abbrev pub with_past : Place → Result (List Tree) TextFault → Result Forest TextFault

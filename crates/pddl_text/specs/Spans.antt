@@ -8,7 +8,7 @@ use Rattle.pddl_text.specs.declared.plan.PlanLine.{PlanLine}
 use Rattle.pddl_text.specs.Places.{past_of}
 use Rattle.pddl_text.specs.Tokens.{Token, Word, Open, Close, Stray}
 
--- the word is the lower case of the bytes at its positions, and its place is that of the first of them
+-- the word is the lower case of the bytes at its positions, and has the place of the first of them
 pub record StandsAt (bytes text : List ℕ) (at : Place) (first past : ℕ) : Type 0 where
   pub letters : text ≡ str_to_ascii_lowercase (slice_range bytes first past)
   pub place : at ≡ past_of (take first bytes)
@@ -20,19 +20,22 @@ StandsIn bytes (Open at) = Unit {0}
 StandsIn bytes (Close at) = Unit {0}
 StandsIn bytes (Stray at) = Unit {0}
 
--- from the first number on and up to the second, each token takes one byte or more behind those of the tokens before it
+-- each token takes a byte or more between these positions, behind the tokens before it
 abbrev pub SpansAscend : ℕ → ℕ → List Token → Type 0
 SpansAscend from to [] = from ≤ to
-SpansAscend from to (Word text at first past ∷ tokens) = (from ≤ first) × (first < past) × SpansAscend past to tokens
+SpansAscend from to (Word text at first past ∷ tokens) =
+    (from ≤ first) × (first < past) × SpansAscend past to tokens
 SpansAscend from to (Open at ∷ tokens) = SpansAscend (from + 1) to tokens
 SpansAscend from to (Close at ∷ tokens) = SpansAscend (from + 1) to tokens
 SpansAscend from to (Stray at ∷ tokens) = SpansAscend (from + 1) to tokens
 
--- from this position on, each word is the lower case of a slice of the bytes, behind the slice of the word before it
+-- each word is the lower case of a slice of the bytes, from this position on and behind the word before
 abbrev pub WordsAscend : List ℕ → ℕ → List (Text × Place) → Type 0
 WordsAscend bytes from [] = from ≤ length bytes
 WordsAscend bytes from ((text, at) ∷ words) =
-    (first : ℕ) × (from ≤ first) × (0 < length text) × StandsAt bytes text at first (first + length text) × WordsAscend bytes (first + length text) words
+    (first : ℕ) × (from ≤ first) × (0 < length text)
+    × StandsAt bytes text at first (first + length text)
+    × WordsAscend bytes (first + length text) words
 
 -- the words of all lines of a plan, in their order
 abbrev pub words_of : List PlanLine → List (Text × Place)

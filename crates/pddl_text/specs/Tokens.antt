@@ -1,5 +1,5 @@
--- What a text says: its words and parentheses in their order. White space and comments say nothing, a word is a longest run of
--- word bytes, and letters count in lower case.
+-- What a text says: its words and parentheses in their order. White space and comments say nothing,
+-- a word is a longest run of word bytes, and it is kept in lower case.
 use Rattle.std.specs.Prelude.{ℕ, ◌+◌, ◌≡◌, List, [], ◌∷◌, ◌++◌, length, IsTrue}
 use Rattle.std.specs.Bool.{IsFalse}
 use Rattle.std.specs.Str.{str_to_ascii_lowercase}
@@ -8,12 +8,12 @@ use Rattle.pddl_text.specs.declared.place.Spot.{Spot}
 use Rattle.pddl_text.specs.Bytes.{is_white, is_word_byte, is_stray, OnOneLine, AreWordBytes}
 use Rattle.pddl_text.specs.Places.{after, after_all}
 
--- a word, with its text in lower case, its place, the position of its first byte and that of the byte past it; a parenthesis; a byte
--- that has no place in a text
+-- a word has its text, its place, and the positions of its first byte and of the byte past it
 pub data Token : Type 0 where
   Word : List ℕ → Place → ℕ → ℕ → Token
   Open : Place → Token
   Close : Place → Token
+  -- a byte that has no place in a text
   Stray : Place → Token
 
 -- no word goes on here
@@ -26,29 +26,35 @@ abbrev pub EndsLine : List ℕ → Type 0
 EndsLine [] = Unit {0}
 EndsLine (b ∷ bytes) = b ≡ 10
 
--- the bytes from a spot on have these tokens: by the end of the text; by white space; by a comment, up to the end of its line; by a
--- parenthesis; by a word; or by a stray byte, each before the tokens of the rest
+-- the bytes from a spot on have these tokens
 pub data HasTokens : Spot → List ℕ → List Token → Type 0 where
+  -- where the text ends, nothing is left to say
   end : {s : Spot} → HasTokens s [] []
+  -- white space says nothing
   white : {s : Spot} {b : ℕ} {rest : List ℕ} {tokens : List Token}
       → IsTrue (is_white b)
       → HasTokens (after s b) rest tokens
       → HasTokens s (b ∷ rest) tokens
+  -- a comment says nothing, from its `;` to the end of its line
   comment : {s : Spot} (inside rest : List ℕ) {tokens : List Token}
       → OnOneLine inside → EndsLine rest
       → HasTokens (after_all s (59 ∷ inside)) rest tokens
       → HasTokens s (59 ∷ inside ++ rest) tokens
+  -- `(` and `)` are tokens
   opening : {s : Spot} {rest : List ℕ} {tokens : List Token}
       → HasTokens (after s 40) rest tokens
       → HasTokens s (40 ∷ rest) (Open s.place ∷ tokens)
   closing : {s : Spot} {rest : List ℕ} {tokens : List Token}
       → HasTokens (after s 41) rest tokens
       → HasTokens s (41 ∷ rest) (Close s.place ∷ tokens)
+  -- a longest run of word bytes is a word
   word : {s : Spot} (b : ℕ) (letters rest : List ℕ) {tokens : List Token}
       → AreWordBytes (b ∷ letters) → EndsWord rest
       → HasTokens (after_all s (b ∷ letters)) rest tokens
       → HasTokens s (b ∷ letters ++ rest)
-      (Word (str_to_ascii_lowercase (b ∷ letters)) s.place s.position (s.position + length (b ∷ letters)) ∷ tokens)
+      (Word (str_to_ascii_lowercase (b ∷ letters)) s.place s.position (s.position + length (b ∷ letters))
+      ∷ tokens)
+  -- any other byte is stray
   stray : {s : Spot} {b : ℕ} {rest : List ℕ} {tokens : List Token}
       → IsTrue (is_stray b)
       → HasTokens (after s b) rest tokens

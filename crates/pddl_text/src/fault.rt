@@ -7,7 +7,8 @@ use crate::Place;
 use mre_base::{NoMemory, Text};
 use std::alloc::{AllocError, AllocFailed, Global};
 
-/// A rule that the text of a domain, a problem or a plan can break. Here the first four are found, and `Form` in a plan.
+/// A rule that the text of a domain, a problem or a plan can break. This crate finds the first four
+/// in any text, and `Form` in a plan.
 #[derive(Clone, Copy, Debug, PartialEq, Eq)]
 pub enum TextRule {
     /// A byte outside a comment is no white space, no parenthesis, no `;` and no word byte.

@@ -10,14 +10,15 @@ use mre_base::{List, NoMemory, Text};
 use std::alloc::Global;
 use std::mem;
 
-/// A list that is open: where its `(` stands, and the trees before it in the list that it stands in.
+/// A list that is open: where its `(` stands, and the trees before it in the list around it.
 #[derive(Drop)]
 pub struct Frame {
     pub at: Place,
     pub before: List<Tree>,
 }
 
-/// The lists that are open, the innermost last, and the trees so far of the innermost or, where none is open, of the text.
+/// The lists that are open, the innermost last, and the trees so far of the innermost or, where none
+/// is open, of the text.
 #[derive(Drop)]
 pub struct Grove {
     pub frames: Vec<Frame>,
@@ -30,7 +31,8 @@ impl Grove {
 
     pub fn put_word(&mut self, text: Text, at: Place, first: u32, past: u32) -> Result<(), NoMemory>
         ensures ok { OnOk result ((end : place.Place) (tokens : ListOf token.Token) →
-            reads self.old end (token.Word text at first past ∷ tokens) ≡ reads self.new end tokens) }
+            reads self.old end (token.Word text at first past ∷ tokens)
+            ≡ reads self.new end tokens) }
     {
         self.trees.push(Tree::Word {
             text,
@@ -43,7 +45,8 @@ impl Grove {
     pub fn open(&mut self, alloc: Global, at: Place) -> Result<(), Stop>
         ensures ok { OnOk result ((end : place.Place) (tokens : ListOf token.Token) →
             reads self.old end (token.Open at ∷ tokens) ≡ reads self.new end tokens) }
-        ensures fault { IfStopped result (λ fault. (end : place.Place) (tokens : ListOf token.Token) →
+        ensures fault { IfStopped result (λ fault.
+            (end : place.Place) (tokens : ListOf token.Token) →
             reads self.old end (token.Open at ∷ tokens) ≡ Err fault) }
     {
         if self.frames.len() >= Grove::DEEPEST {
@@ -60,7 +63,8 @@ impl Grove {
     pub fn close(&mut self, at: Place) -> Result<(), Stop>
         ensures ok { OnOk result ((end : place.Place) (tokens : ListOf token.Token) →
             reads self.old end (token.Close at ∷ tokens) ≡ reads self.new end tokens) }
-        ensures fault { IfStopped result (λ fault. (end : place.Place) (tokens : ListOf token.Token) →
+        ensures fault { IfStopped result (λ fault.
+            (end : place.Place) (tokens : ListOf token.Token) →
             reads self.old end (token.Close at ∷ tokens) ≡ Err fault) }
     {
         match self.frames.pop() {

@@ -28,7 +28,8 @@ pub fn law_forests()
         IsFirstFault bytes fault → IsFirstFault bytes other → fault ≡ other }
 {}
 
-/// Each text spells the lines of a plan or leaves their form somewhere first, never both, and only one of either.
+/// Each text spells the lines of a plan or leaves their form somewhere first, never both, and only
+/// one of either.
 pub fn law_plans()
     ensures either { (bytes : List ℕ) →
         ((lines : List PlanLine) × SpellsPlan bytes lines)

@@ -1,6 +1,7 @@
 ghost use Rattle.std.specs.Prelude.{◌≡◌, ◌+◌, ◌^◌, ◌<◌};
 
-/// Where a byte stands in a text. Lines and columns count from 1. A line feed ends a line, and a column counts bytes.
+/// Where a byte stands in a text. Lines and columns count from 1. A line feed ends a line, and a
+/// column counts bytes.
 #[derive(Clone, Copy, Debug, PartialEq, Eq)]
 pub struct Place {
     pub line: u32,

@@ -15,7 +15,8 @@ use crate::{Place, ReadStop, TextRule};
 use mre_base::{List, NoMemory, Text};
 use std::alloc::Global;
 
-/// A line of a plan: the name of an action and the names of its objects, in lower case, each with the place of its first byte.
+/// A line of a plan: the name of an action and the names of its objects, in lower case, each with
+/// the place of its first byte.
 #[derive(Debug, Drop)]
 pub struct PlanLine {
     pub words: List<(Text, Place)>,
@@ -30,7 +31,8 @@ pub enum RowMode {
     Closed,
 }
 
-/// A row of a plan that is being read: what its bytes so far end in, the letters so far of that name, and the names before it.
+/// A row of a plan that is being read: what its bytes so far end in, the letters so far of that
+/// name, and the names before it.
 #[derive(Drop)]
 pub struct RowReader {
     pub mode: RowMode,
@@ -54,7 +56,8 @@ impl RowReader {
         requires { self.old.mode ≡ RowMode.Inside }
         ensures ok { OnOk result (inside_step self.old.words at byte ≡ Some (state_of self.new)) }
         ensures fault { IfStopped result (λ fault.
-            (inside_step self.old.words at byte ≡ None) × (fault ≡ fault_at at TextRule.Form)) }
+            (inside_step self.old.words at byte ≡ None)
+            × (fault ≡ fault_at at TextRule.Form)) }
     {
         if is_space(byte) {
             return Ok(());
@@ -211,7 +214,7 @@ fn read_told(alloc: Global, bytes: &[u8]) -> Result<List<PlanLine>, ReadStop>
     }
 }
 
-/// The lines of a plan, or the first place where it leaves the form of its lines, with the rule `Form`.
+/// The lines of a plan, or the first place where it leaves their form, with the rule `Form`.
 pub fn read_plan_lines(alloc: Global, bytes: &[u8]) -> Result<List<PlanLine>, ReadStop>
     requires short { length bytes.now < 2 ^ 28 }
 

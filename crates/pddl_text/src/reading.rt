@@ -28,7 +28,8 @@ pub enum Mode {
     InWord { from: Spot },
 }
 
-/// A text that is being read: its lists and trees so far, what its bytes so far end in, and the letters so far of that word.
+/// A text that is being read: its lists and trees so far, what its bytes so far end in, and the
+/// letters so far of that word.
 #[derive(Drop)]
 pub struct Reader {
     pub grove: Grove,
@@ -171,7 +172,8 @@ fn read_told(alloc: Global, bytes: &[u8]) -> Result<Forest, ReadStop>
     }
 }
 
-/// The words and lists of a text, or the first place where it breaks one of the rules `Byte`, `Close`, `Deep` and `Open`.
+/// The words and lists of a text, or the first place where it breaks one of the rules `Byte`,
+/// `Close`, `Deep` and `Open`.
 pub fn read_forest(alloc: Global, bytes: &[u8]) -> Result<Forest, ReadStop>
     requires short { length bytes.now < 2 ^ 28 }
 
@@ -180,7 +182,8 @@ pub fn read_forest(alloc: Global, bytes: &[u8]) -> Result<Forest, ReadStop>
     ensures fault { IfFault result (λ fault. IsFirstFault bytes.now fault) }
 
     // What the bytes spell is answered, and so is their first fault.
-    ensures succeeds { (forest : tree.Forest) → Spells bytes.now forest → AnswersOk result forest }
+    ensures succeeds { (forest : tree.Forest) → Spells bytes.now forest →
+        AnswersOk result forest }
     ensures refuses { (fault : faults.TextFault) → IsFirstFault bytes.now fault →
         AnswersFault result fault }
 

@@ -4,7 +4,8 @@ use mre_base::{List, Text};
 /// A word or a list of a text, with where it stands.
 #[derive(Debug, Drop)]
 pub enum Tree {
-    /// A longest run of word bytes, in ASCII lower case. It stands at the bytes from position `first` on and before `past`.
+    /// A longest run of word bytes, in ASCII lower case. It stands at the bytes from position
+    /// `first` on and before `past`.
     Word {
         text: Text,
         at: Place,
