@@ -43,8 +43,10 @@ kind b =
 abbrev pub OnOneLine : List ℕ → Type 0
 OnOneLine bytes = AllByRecursion (λ b. b ≢ 10) bytes
 
+-- a word may have each of the bytes
 abbrev pub AreWordBytes : List ℕ → Type 0
 AreWordBytes bytes = AllByRecursion (λ b. IsTrue (is_word_byte b)) bytes
 
+-- each of the bytes is a blank
 abbrev pub AreBlank : List ℕ → Type 0
 AreBlank bytes = AllByRecursion (λ b. IsTrue (is_blank b)) bytes

@@ -11,6 +11,7 @@ use Rattle.pddl_text.specs.Faults.{fault_at}
 use Rattle.pddl_text.specs.Places.{start, past_of}
 use Rattle.pddl_text.specs.Tokens.{Token, HasTokens, Word, Open, Close, Stray}
 
+-- the tokens of the lists, one list behind another
 abbrev pub joined : List (List Token) → List Token
 joined [] = []
 joined (tokens ∷ lists) = tokens ++ joined lists
@@ -24,13 +25,16 @@ tokens_step (Tree-F.Items list at close) = Open at ∷ (joined list ++ Close clo
 abbrev pub tokens_of : Tree → List Token
 tokens_of = fold-Tree (List Token) tokens_step
 
+-- the tokens of the trees, one tree behind another
 abbrev pub tokens_of_all : List Tree → List Token
 tokens_of_all trees = joined (map tokens_of trees)
 
+-- the greatest of the numbers, or 0
 abbrev pub greatest : List ℕ → ℕ
 greatest [] = 0
 greatest (n ∷ ns) = max n (greatest ns)
 
+-- one tree, with the height of each inner tree in its place
 abbrev pub height_step : Tree-F ℕ → ℕ
 height_step (Tree-F.Word text at first past) = 0
 height_step (Tree-F.Items list at close) = 1 + greatest list
@@ -39,6 +43,7 @@ height_step (Tree-F.Items list at close) = 1 + greatest list
 abbrev pub height : Tree → ℕ
 height = fold-Tree ℕ height_step
 
+-- how many lists are open at most inside the trees
 abbrev pub height_of_all : List Tree → ℕ
 height_of_all trees = greatest (map height trees)
 

@@ -59,6 +59,7 @@ row_end Closed words at = Ok (record { words = words })
 abbrev pub beside : Place → Place
 beside at = record { line = at.line; column = at.column + 1 }
 
+-- the row goes on in this state, or no line of the form has the byte here
 abbrev pub goes_on : Option RowState → Place → (RowState → Result PlanLine TextFault)
     → Result PlanLine TextFault
 goes_on None at next = Err (fault_at at rule.Form)
@@ -70,6 +71,7 @@ row_from state at [] = row_end state.row state.words at
 row_from state at (b ∷ bytes) =
     goes_on (row_step state.row state.words at b) at (λ next. row_from next (beside at) bytes)
 
+-- before the first byte of a row
 abbrev pub row_start : RowState
 row_start = record { words = []; row = Before }
 
@@ -77,6 +79,7 @@ row_start = record { words = []; row = Before }
 abbrev pub line_of : ℕ → List ℕ → Result PlanLine TextFault
 line_of line bytes = row_from row_start (record { line = line; column = 1 }) bytes
 
+-- a row's line is added to the lines so far
 abbrev pub adds : Result PlanLine TextFault → List PlanLine
     → (List PlanLine → Result (List PlanLine) TextFault) → Result (List PlanLine) TextFault
 adds (Err fault) lines next = Err fault
@@ -98,6 +101,7 @@ rows_from lines line (row ∷ rows) =
 abbrev pub lines_of : List ℕ → Result (List PlanLine) TextFault
 lines_of bytes = rows_from [] 1 (rows_of bytes)
 
+-- what a reader's bytes so far end in
 abbrev pub row_in : RowMode → List ℕ → Row
 row_in mode.Before letters = Before
 row_in mode.Inside letters = Inside

@@ -72,6 +72,7 @@ trees_from frames trees end (Stray at ∷ tokens) = Err (fault_at at rule.Byte)
 abbrev pub reads : Grove → Place → List Token → Result (List Tree) TextFault
 reads grove end tokens = trees_from (reverse grove.frames.items) grove.trees end tokens
 
+-- what a reader's bytes so far end in
 abbrev pub within_of : Mode → List ℕ → Within
 within_of mode.Between letters = Nothing
 within_of mode.Comment letters = Comment
@@ -87,9 +88,10 @@ abbrev pub with_past : Place → Result (List Tree) TextFault → Result Forest 
 with_past past (Ok trees) = Ok (record { trees = trees; past = past })
 with_past past (Err fault) = Err fault
 
--- what the bytes of a whole text are read as
+-- the trees that a whole text is read as
 abbrev pub trees_of : List ℕ → Result (List Tree) TextFault
 trees_of bytes = trees_from [] [] (past_of bytes) (tokens_from Nothing start bytes)
 
+-- the forest that a whole text is read as
 abbrev pub forest_of : List ℕ → Result Forest TextFault
 forest_of bytes = with_past (past_of bytes) (trees_of bytes)
