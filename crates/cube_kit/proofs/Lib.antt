@@ -1,0 +1,4 @@
+pub mod CubeLemmas
+pub mod OrderLemmas
+pub mod RangeLemmas
+pub mod WeightLemmas
