@@ -1,6 +1,6 @@
 -- Cubes and their members, number by number.
-use Rattle.std.proofs.Common.{◌≡◌, ℕ, zero, suc, ◌+◌, ◌-◌, ◌≤◌, ◌<◌, Bool, true, false, ◌&&◌, ◌||◌, not, cond, List, length, nat_eq, nat_le, nat_lt, refl, sym, ap, ◌∙◌, arith, ◌⊎◌, inl, inr}
-use Rattle.std.specs.List.{range_with_len, list_any}
+use Rattle.std.proofs.Common.{◌≡◌, ℕ, ◌+◌, ◌≤◌, Bool, true, false, ◌&&◌, ◌||◌, not, cond, List, length, nat_eq, refl, sym, ap, ◌∙◌, arith, ◌⊎◌, inl, inr}
+use Rattle.std.specs.List.{range_with_len}
 use Rattle.std.specs.Ordering.{nat_cmp, eq_by_cmp}
 use Rattle.std.specs.Cmp.{nat_cmp_total}
 use Rattle.std.specs.FinSet as set
@@ -8,7 +8,7 @@ use Rattle.std.specs.FinSet.{same_set, is_subset-contains, contains-is_subset, c
 use Rattle.std.proofs.lemmas.Bool.{and_parts, and_from, or_cases, or_left, or_right, eq-eqb, eqb-true, false≢true, not_from_false, not-true}
 use Rattle.std.proofs.lemmas.Bool.Decides.{nat_tests}
 use Rattle.mre_base.specs.Before.{is_before}
-use Rattle.cube_kit.specs.Cubes.{Told, CubeMeaning, IsWithin, is_listed, is_one_of, IsCube, is_at_most_one_of, IsApart, is_member, is_inside, all_to, root, single, above, told_child, left_child}
+use Rattle.cube_kit.specs.Cubes.{Told, CubeMeaning, IsWithin, is_listed, is_one_of, IsCube, is_member, is_inside, all_to, root, single, above, told_child, left_child}
 use Rattle.cube_kit.specs.Laws.{CubeLaw}
 use Rattle.cube_kit.specs.Weighing.{AreWeights}
 use Rattle.cube_kit.proofs.OrderLemmas.{before_greater}
@@ -117,13 +117,13 @@ one_child c place s = (λ i. cond (told_has c place s i) 1 0 + cond (left_has c 
 empty_has : (k : ℕ) → set.contains (set.empty {R = nat_cmp}) k ≡ true → ⊥
 empty_has k h = false≢true (sym (contains-empty nat_cmp k) ∙ h)
 
-root_has : (d : ℕ) (s : Told) → is_member (root d) s ≡ true
+pub root_has : (d : ℕ) (s : Told) → is_member (root d) s ≡ true
 root_has d s = member_from (root d) s (λ k h. absurd (empty_has k h)) (λ k h. absurd (empty_has k h))
 
-above_has : (d : ℕ) (s t : Told) → is_member (above d s) t ≡ set.is_subset s t
+pub above_has : (d : ℕ) (s t : Told) → is_member (above d s) t ≡ set.is_subset s t
 above_has d s t = same_test _ _ (λ is. (and_parts _ _ is).0) (λ sub. member_from (above d s) t (λ k there. is_subset-contains nat_cmp_total s t sub k there) (λ k h. absurd (empty_has k h)))
 
-single_has : (d : ℕ) (s t : Told) → IsWithin d t → is_member (single d s) t ≡ true → s ≡ t
+pub single_has : (d : ℕ) (s t : Told) → IsWithin d t → is_member (single d s) t ≡ true → s ≡ t
 single_has d s t within is =
     same_set nat_cmp_total nat_cmp-IsAntisymmetric s t (λ k. same_test _ _ (member_has (single d s) t is k) (λ there.
     by (set.contains s k) (λ out. false≢true (sym (member_lacks (single d s) t is k (contains-difference nat_cmp_total (all_to d) s k ∙ and_from _ _ (contains-all_to d k ∙ listed k (within k there)) (not_from_false _ out))) ∙ there))))
@@ -183,7 +183,7 @@ single_inside d c s cube is =
     contains-difference nat_cmp_total (all_to d) s k
     ∙ and_from _ _ (contains-all_to d k ∙ (left_listed _ (set.contains c.told k) _ (set.contains c.undecided k) (cube k) left).0) (not_from_false _ (member_lacks c s is k left))))
 
-told_is_member : (d : ℕ) (c : CubeMeaning) → IsCube d c → is_member c c.told ≡ true
+pub told_is_member : (d : ℕ) (c : CubeMeaning) → IsCube d c → is_member c c.told ≡ true
 told_is_member d c cube = member_from c c.told (λ k there. there) (λ k left. told_not_left (is_listed d k) _ _ (set.contains c.undecided k) (cube k) left)
 
 told_is_within : (d : ℕ) (c : CubeMeaning) → IsCube d c → IsWithin d c.told
@@ -191,14 +191,14 @@ told_is_within d c cube k there = listed (told_listed (is_listed d k) _ (set.con
   listed : is_listed d k ≡ true → (1 ≤ k) × (k ≤ d)
   listed h = grind (arith, nat_tests)
 
-told_is_first : (weights : List ℕ) (c : CubeMeaning) (s : Told) → AreWeights weights → IsWithin (length weights) s → is_member c s ≡ true → (c.told ≡ s) ⊎ (is_before weights c.told s ≡ true)
+pub told_is_first : (weights : List ℕ) (c : CubeMeaning) (s : Told) → AreWeights weights → IsWithin (length weights) s → is_member c s ≡ true → (c.told ≡ s) ⊎ (is_before weights c.told s ≡ true)
 told_is_first weights c s heavy within is = before_greater weights c.told s heavy within (and_parts _ _ is).0
 
 -- the test of three sets at changed sets
 pub one_of : (w t l o t' l' o' : Bool) → t' ≡ t → l' ≡ l → o' ≡ o → is_one_of w t l o ≡ true → is_one_of w t' l' o' ≡ true
 one_of w t l o t' l' o' et el eo h = (λ i. is_one_of w (et i) (el i) (eo i)) ∙ h
 
-root_cube : (d : ℕ) → IsCube d (root d)
+pub root_cube : (d : ℕ) → IsCube d (root d)
 root_cube d k = one_of (is_listed d k) false false (is_listed d k) _ _ _ (contains-empty nat_cmp k) (contains-empty nat_cmp k) (contains-all_to d k) (by (is_listed d k)) where
   by : (w : Bool) → is_one_of w false false w ≡ true
   by true = refl
@@ -213,10 +213,10 @@ split_above d k b h = grind (arith, nat_tests)
 rest_of : (d : ℕ) (s : Told) (k : ℕ) → set.contains (set.difference (all_to d) s) k ≡ (is_listed d k && not (set.contains s k))
 rest_of d s k = contains-difference nat_cmp_total (all_to d) s k ∙ ap (λ b. b && not (set.contains s k)) (contains-all_to d k)
 
-single_cube : (d : ℕ) (s : Told) → IsWithin d s → IsCube d (single d s)
+pub single_cube : (d : ℕ) (s : Told) → IsWithin d s → IsCube d (single d s)
 single_cube d s within k = one_of (is_listed d k) (set.contains s k) _ false _ _ _ refl (rest_of d s k) (contains-empty nat_cmp k) (split_listed d k (set.contains s k) (within k))
 
-above_cube : (d : ℕ) (s : Told) → IsWithin d s → IsCube d (above d s)
+pub above_cube : (d : ℕ) (s : Told) → IsWithin d s → IsCube d (above d s)
 above_cube d s within k = one_of (is_listed d k) (set.contains s k) false _ _ _ _ refl (contains-empty nat_cmp k) (rest_of d s k) (split_above d k (set.contains s k) (within k))
 
 -- a number that goes from one set to another
@@ -226,15 +226,15 @@ move_told w e t l o h one = grind arith
 move_left : (w e t l o : Bool) → (e ≡ true → o ≡ true) → is_one_of w t l o ≡ true → is_one_of w t (e || l) (not e && o) ≡ true
 move_left w e t l o h one = grind arith
 
-at_place : (s : Told) (place k : ℕ) → set.contains s place ≡ true → nat_eq k place ≡ true → set.contains s k ≡ true
+pub at_place : (s : Told) (place k : ℕ) → set.contains s place ≡ true → nat_eq k place ≡ true → set.contains s k ≡ true
 at_place s place k there e = ap (set.contains s) (eqb-true k place e) ∙ there
 
-told_cube : (d : ℕ) (c : CubeMeaning) (place : ℕ) → set.contains c.undecided place ≡ true → IsCube d c → IsCube d (told_child c place)
+pub told_cube : (d : ℕ) (c : CubeMeaning) (place : ℕ) → set.contains c.undecided place ≡ true → IsCube d c → IsCube d (told_child c place)
 told_cube d c place there cube k =
     one_of (is_listed d k) _ (set.contains c.left k) _ _ _ _ (contains-insert_nat c.told place k) refl (contains-remove_nat c.undecided place k)
     (move_told (is_listed d k) (nat_eq k place) _ _ _ (at_place c.undecided place k there) (cube k))
 
-left_cube : (d : ℕ) (c : CubeMeaning) (place : ℕ) → set.contains c.undecided place ≡ true → IsCube d c → IsCube d (left_child c place)
+pub left_cube : (d : ℕ) (c : CubeMeaning) (place : ℕ) → set.contains c.undecided place ≡ true → IsCube d c → IsCube d (left_child c place)
 left_cube d c place there cube k =
     one_of (is_listed d k) (set.contains c.told k) _ _ _ _ _ refl (contains-insert_nat c.left place k) (contains-remove_nat c.undecided place k)
     (move_left (is_listed d k) (nat_eq k place) _ _ _ (at_place c.undecided place k there) (cube k))

@@ -1,19 +1,18 @@
 -- The order of sets, level by level: by a number, and then by a test where the numbers are equal.
-use Rattle.std.proofs.Common.{◌≡◌, ℕ, zero, suc, ◌+◌, ◌-◌, ◌≤◌, ◌<◌, Bool, true, false, ◌&&◌, cond, List, [], ◌∷◌, length, filter, sum_by, take, slice_index, nat_eq, nat_le, nat_lt, refl, sym, ap, ◌∙◌, arith, ◌⊎◌, inl, inr}
+use Rattle.std.proofs.Common.{◌≡◌, ℕ, zero, suc, ◌+◌, ◌-◌, ◌≤◌, ◌<◌, Bool, true, false, ◌&&◌, cond, List, [], ◌∷◌, length, filter, take, slice_index, nat_eq, nat_lt, refl, sym, ap, ◌∙◌, arith, ◌⊎◌, inl, inr}
 use Rattle.std.specs.List.{range_with_len, list_any}
-use Rattle.std.specs.Ordering.{nat_cmp}
 use Rattle.std.specs.Cmp.{nat_cmp_total}
 use Rattle.std.specs.FinSet as set
 use Rattle.std.specs.FinSet.{same_set, is_subset-contains, nat_cmp-IsAntisymmetric}
-use Rattle.std.proofs.lemmas.Bool.{cases_order, cases_Bool, false≢true, and_parts, leb-true}
+use Rattle.std.proofs.lemmas.Bool.{cases_order, false≢true}
 use Rattle.std.proofs.lemmas.Bool.Decides.{nat_tests}
 use Rattle.std.proofs.lemmas.List.{get_or-take, length-take}
 use Rattle.std.proofs.lemmas.List.Sums.{sum_by-cons}
-use Rattle.mre_base.specs.Before.{numbers, weight, is_earlier_list, is_smaller, is_lighter, is_before}
+use Rattle.mre_base.specs.Before.{numbers, count_of, weight, is_earlier_list, is_smaller, is_lighter, is_before}
 use Rattle.cube_kit.specs.Cubes.{Told, IsWithin}
 use Rattle.cube_kit.specs.Laws.{OrderLaw}
 use Rattle.cube_kit.specs.Weighing.{AreWeights}
-use Rattle.cube_kit.proofs.RangeLemmas.{is_in_range, any-filter-range, filter-range-same, filter-range-more, filter-range-less}
+use Rattle.cube_kit.proofs.RangeLemmas.{is_in_range, any-filter-range, filter-range-more, filter-range-less}
 
 -- first by a number, and then by a test
 abbrev by_number : ℕ → ℕ → Bool → Bool
@@ -148,15 +147,47 @@ shorter ws d le = omega (arith, length-take d ws)
 numbers-narrow : (ws : List ℕ) (d : ℕ) (s : Told) → d ≤ length ws → IsWithin d s → numbers (length (take d ws)) s ≡ numbers (length ws) s
 numbers-narrow ws d s le within = ap (λ k. numbers k s) (shorter ws d le) ∙ sym (numbers-more d (length ws) s le within)
 
-pub weight-narrow : (ws : List ℕ) (d : ℕ) (s : Told) → d ≤ length ws → IsWithin d s → weight (take d ws) (numbers (length (take d ws)) s) ≡ weight ws (numbers (length ws) s)
+pub weight-narrow : (ws : List ℕ) (d : ℕ) (s : Told) → d ≤ length ws → IsWithin d s → weight (take d ws) (numbers d s) ≡ weight ws (numbers (length ws) s)
 weight-narrow ws d s le within =
-    ap (λ k. weight (take d ws) (numbers k s)) (shorter ws d le)
-    ∙ weight-take ws d (set.contains s) 1 d (omega arith) (omega arith)
-    ∙ ap (weight ws) (sym (numbers-more d (length ws) s le within))
+    weight-take ws d (set.contains s) 1 d (omega arith) (omega arith) ∙ ap (weight ws) (sym (numbers-more d (length ws) s le within))
+
+weight-shorter : (ws : List ℕ) (d : ℕ) (s : Told) → d ≤ length ws → IsWithin d s → weight (take d ws) (numbers (length (take d ws)) s) ≡ weight ws (numbers (length ws) s)
+weight-shorter ws d s le within = ap (λ k. weight (take d ws) (numbers k s)) (shorter ws d le) ∙ weight-narrow ws d s le within
 
 pub before_narrow : (ws : List ℕ) (d : ℕ) (a b : Told) → d ≤ length ws → IsWithin d a → IsWithin d b → is_before (take d ws) a b ≡ is_before ws a b
 before_narrow ws d a b le wa wb =
-    λ i. by_number (weight-narrow ws d a le wa i) (weight-narrow ws d b le wb i) (is_smaller (numbers-narrow ws d a le wa i) (numbers-narrow ws d b le wb i))
+    λ i. by_number (weight-shorter ws d a le wa i) (weight-shorter ws d b le wb i) (is_smaller (numbers-narrow ws d a le wa i) (numbers-narrow ws d b le wb i))
+
+-- ---- the order by one level
+number_apart : (n m : ℕ) (r : Bool) → (n ≡ m → ⊥) → nat_lt n m ≡ by_number n m r
+number_apart n m r apart = grind (arith, nat_tests)
+
+number_then : (n m : ℕ) (r : Bool) → n ≡ m → r ≡ by_number n m r
+number_then n m r same = grind (arith, nat_tests)
+
+pub before_by_weight : (ws : List ℕ) (a b : Told) (v w : ℕ) → v ≡ weight ws (numbers (length ws) a) → w ≡ weight ws (numbers (length ws) b) → (v ≡ w → ⊥) → nat_lt v w ≡ is_before ws a b
+before_by_weight ws a b v w ev ew apart =
+    number_apart v w (is_smaller (numbers (length ws) a) (numbers (length ws) b)) apart
+    ∙ (λ i. by_number (ev i) (ew i) (is_smaller (numbers (length ws) a) (numbers (length ws) b)))
+
+pub before_by_size : (ws : List ℕ) (a b : Told) (v w m n : ℕ) → v ≡ weight ws (numbers (length ws) a) → w ≡ weight ws (numbers (length ws) b) → v ≡ w
+    → m ≡ length (numbers (length ws) a) → n ≡ length (numbers (length ws) b) → (m ≡ n → ⊥) → nat_lt m n ≡ is_before ws a b
+before_by_size ws a b v w m n ev ew same em en apart =
+    number_apart m n (is_earlier_list (numbers (length ws) a) (numbers (length ws) b)) apart
+    ∙ (λ i. by_number (em i) (en i) (is_earlier_list (numbers (length ws) a) (numbers (length ws) b)))
+    ∙ number_then v w (is_smaller (numbers (length ws) a) (numbers (length ws) b)) same
+    ∙ (λ i. by_number (ev i) (ew i) (is_smaller (numbers (length ws) a) (numbers (length ws) b)))
+
+pub before_by_list : (ws : List ℕ) (a b : Told) (d : ℕ) (r : Bool) → weight ws (numbers (length ws) a) ≡ weight ws (numbers (length ws) b)
+    → length (numbers (length ws) a) ≡ length (numbers (length ws) b) → d ≡ length ws → r ≡ is_earlier_list (numbers d a) (numbers d b) → r ≡ is_before ws a b
+before_by_list ws a b d r same as_many e is =
+    is ∙ ap (λ k. is_earlier_list (numbers k a) (numbers k b)) e
+    ∙ number_then _ _ _ as_many ∙ number_then _ _ _ same
+
+-- how many of the numbers that a difference may have are in a set
+pub count-numbers : (ws : List ℕ) (s : Told) → length ws ≡ 256 → count_of s ≡ length (numbers (length ws) s)
+unfolding count_of
+count-numbers ws s e = ap (λ k. length (numbers k s)) (sym e)
 
 pub order_law : OrderLaw
 order_law = record { one_way = before_one_way; trans = before_trans; total = before_total; greater = before_greater; narrow = before_narrow }

@@ -1,3 +1,4 @@
+pub mod Child
 pub mod Cubes
 pub mod Laws
 pub mod Weighing

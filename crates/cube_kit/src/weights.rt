@@ -1,5 +1,9 @@
-ghost use Rattle.std.specs.Prelude.{◌≡◌, ◌≤◌, ◌-◌, replicate, slice_index, slice_set};
+ghost use Rattle.std.specs.Prelude.{ℕ, ◌≡◌, ◌≤◌, ◌-◌, length, replicate, slice_index, slice_set, take};
+ghost use Rattle.mre_base.specs.Before.{numbers, weight};
+ghost use Rattle.cube_kit.specs.Cubes.{IsWithin};
 
+use crate::order::sum_of;
+use mre_base::Places;
 use std::marker::Model;
 
 /// The greatest weight of a difference. The least is 1.
@@ -51,6 +55,25 @@ impl Weights {
         ensures weights { IsWeighing self.now }
     {
         self.weights[place as usize - 1]
+    }
+
+    /// The sum of the weights of a set's numbers.
+    pub fn total(&self, set: &Places) -> u64
+        ensures total { result ≡ weight self.now (numbers (length self.now) set.now) }
+        ensures narrow { (d : ℕ) → d ≤ 256 → IsWithin d set.now →
+            result ≡ weight (take d self.now) (numbers d set.now) }
+        ensures weights { IsWeighing self.now }
+    {
+        sum_of(&self.weights, set)
+    }
+
+    // How many differences have a weight.
+    pub(crate) fn places(&self) -> u32
+        ensures places { result ≡ length self.now }
+        ensures weights { IsWeighing self.now }
+    {
+        let weights = &self.weights;
+        weights.len() as u32
     }
 
     pub fn copy(&self) -> Weights
