@@ -1,12 +1,17 @@
 -- Tasks on numbers, after STRIPS. Atoms and ground actions are numbers from 0 on, and a state is the set of its true atoms.
 -- In a task with n atoms the number n stands for whatever can never be true: it may be asked for, and no state has it.
-use Rattle.std.specs.Prelude.{ℕ, ◌+◌, ◌^◌, ◌≡◌, ◌≤◌, ◌<◌, Bool, true, ◌&&◌, not, is_some, List, [], ◌∷◌, length, Option, None, unwrap_or, slice_get}
+use Rattle.std.specs.Prelude.{ℕ, ◌+◌, ◌^◌, ◌≡◌, ◌≤◌, ◌<◌, Bool, true, false, ◌&&◌, not, is_some, List, [], ◌∷◌, length, Option, None, Some, unwrap_or, slice_get}
 use Rattle.std.specs.Ordering.{nat_cmp}
 use Rattle.std.specs.FinSet as set
+use Rattle.mre_base.specs.Sets.{BitSet}
 
 -- the atoms of a state, or the numbers of another set
 abbrev pub Numbers : Type 0
 Numbers = set.FinSet nat_cmp
+
+-- the set of a list's numbers
+abbrev pub set_of : List ℕ → Numbers
+set_of numbers = set.from_list numbers
 
 -- an action: what it needs, what it makes true and false, and what it costs where it has a cost
 pub record ActionMeaning : Type 0 where
@@ -82,3 +87,18 @@ pub record IsTask (task : TaskMeaning) : Type 0 where
   pub start : AllBelow task.atoms task.start
   pub goal : AllBelow (task.atoms + 1) task.goal
   pub each : (action : ℕ) → IsAction task.atoms (action_at task action)
+
+-- a set of numbers, as wide as each bit set of the task: there is a place for the number that is never true
+abbrev pub as_bits : TaskMeaning → Numbers → BitSet
+as_bits task numbers = record { width = task.atoms + 1; members = numbers }
+
+-- the atom is the least of the wanted ones that the state lacks
+pub record IsLeastMissing (wanted state : Numbers) (atom : ℕ) : Type 0 where
+  pub is_wanted : set.contains wanted atom ≡ true
+  pub is_missing : set.contains state atom ≡ false
+  pub is_least : (lower : ℕ) → lower < atom → set.contains wanted lower ≡ true → set.contains state lower ≡ true
+
+-- the least of the wanted atoms that the state lacks, or none where it has them all
+abbrev pub IsFirstLack : Numbers → Numbers → Option ℕ → Type 0
+IsFirstLack wanted state None = set.is_subset wanted state ≡ true
+IsFirstLack wanted state (Some atom) = IsLeastMissing wanted state atom

@@ -1,6 +1,16 @@
 //! Tasks on numbers: their steps, the judging of lists of actions, cuts and bounds, and a plain search below a cost.
 #![tactic(auto)]
 
+mod action;
+mod atoms;
+mod judging;
 mod laws;
+mod price;
+mod task;
+mod view;
 
+pub use action::TaskAction;
+pub use judging::{Judgement, judge};
 pub use laws::{law_bounds, law_cuts};
+pub use task::Task;
+pub use view::TaskView;
