@@ -3,4 +3,8 @@ pub mod BoundLemmas
 pub mod CutLemmas
 pub mod JudgeLemmas
 pub mod KeptLemmas
+pub mod PlaceLemmas
+pub mod QueueLemmas
+pub mod ReachedLemmas
+pub mod SameStates
 pub mod StepLemmas

@@ -6,6 +6,8 @@ mod atoms;
 mod judging;
 mod laws;
 mod price;
+mod queue;
+mod reached;
 mod task;
 mod view;
 
