@@ -1,10 +1,9 @@
 -- Lists of atoms as sets of atoms, one atom after another.
-use Rattle.std.proofs.Common.{◌≡◌, ℕ, zero, suc, ◌+◌, ◌≤◌, ◌<◌, Bool, true, false, ◌&&◌, ◌||◌, not, List, [], ◌∷◌, ◌++◌, length, get_or, take, Option, Some, None, min, nat_eq, refl, sym, ap, ◌∙◌, arith, subst, ◌⊎◌, inl, inr, ltb}
-use Rattle.std.proofs.lemmas.Bool.{and_parts, and_from, or_cases, or_left, or_right, eq-eqb, eqb-true, false≢true, not_from_false, not-true, false_from_ne_true, cases_lt, cases_eq}
+use Rattle.std.proofs.Common.{◌≡◌, ℕ, zero, suc, ◌+◌, ◌≤◌, ◌<◌, Bool, true, false, ◌&&◌, ◌||◌, not, List, [], ◌∷◌, length, get_or, take, Option, Some, None, min, nat_eq, refl, sym, ap, ◌∙◌, arith, subst, ◌⊎◌, inl, inr}
+use Rattle.std.proofs.lemmas.Bool.{or_cases, or_left, or_right, eq-eqb, eqb-true, false≢true, false_from_ne_true, cases_lt}
 use Rattle.std.proofs.lemmas.List.{take_more, take_all}
 use Rattle.std.specs.Cmp.{nat_cmp_total}
 use Rattle.std.specs.FinSet as set
-use Rattle.std.specs.Ordering.{nat_cmp}
 use Rattle.std.specs.FinSet.{same_set, is_subset-contains, contains-is_subset, contains-empty, contains-union, contains-difference, from_list_push, nat_cmp-IsAntisymmetric}
 use Rattle.mre_base.specs.Sets.{BitSet}
 use Rattle.mre_base.proofs.SetsBelow.{contains-insert_nat, contains-remove_nat}

@@ -1,9 +1,8 @@
 -- States with numbers show a bound. One list is followed at a time: from a known state it costs, with the state's number, at least k.
-use Rattle.std.proofs.Common.{◌≡◌, ℕ, zero, suc, ◌+◌, ◌≤◌, ◌<◌, ◌⊎◌, inl, inr, List, [], ◌∷◌, true, false, refl, sym, ◌∙◌, arith}
+use Rattle.std.proofs.Common.{◌≡◌, ℕ, zero, suc, ◌+◌, ◌≤◌, ◌<◌, inl, inr, List, [], ◌∷◌, refl, sym, ◌∙◌, arith}
 use Rattle.std.proofs.lemmas.Bool.{true≢false}
-use Rattle.std.specs.FinSet as set
-use Rattle.task_kit.specs.Tasks.{Numbers, TaskMeaning, price, applies, after, IsValidFrom, IsValid, cost_of}
-use Rattle.task_kit.specs.Bounds.{HasNoCheaper, IsFar, IsExpanded, Shows, NumberedState, IsListed, BoundLaw}
+use Rattle.task_kit.specs.Tasks.{Numbers, TaskMeaning, price, after, IsValidFrom, IsValid, cost_of}
+use Rattle.task_kit.specs.Bounds.{HasNoCheaper, IsExpanded, Shows, IsListed, BoundLaw}
 
 less_far : (k number smaller cost : ℕ) → smaller < number → k ≤ smaller + cost → k ≤ number + cost
 less_far k number smaller cost lt le = omega arith

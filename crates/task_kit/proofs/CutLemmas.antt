@@ -1,10 +1,9 @@
 -- The law of cuts. A cut is open at a state that its set contains. At each step an open cut stays open or counts the action, and at the goal no cut is open.
-use Rattle.std.proofs.Common.{◌≡◌, ℕ, ◌+◌, ◌≤◌, List, [], ◌∷◌, Bool, true, false, ◌&&◌, not, cond, refl, sym, ap, ◌∙◌, arith, All, ◌⊎◌, inl, inr}
+use Rattle.std.proofs.Common.{◌≡◌, ℕ, ◌+◌, ◌≤◌, List, [], ◌∷◌, Bool, true, false, cond, refl, sym, ap, ◌∙◌, arith, All, ◌⊎◌, inl, inr}
 use Rattle.std.proofs.lemmas.Bool.{and_from, cases_Bool, not_from_false, both_ways, false_from_ne_true}
-use Rattle.std.proofs.lemmas.Bool.Decides.{nat_tests}
 use Rattle.std.proofs.lemmas.List.Elements.{All-head, All-tail}
 use Rattle.std.specs.FinSet as set
-use Rattle.task_kit.specs.Tasks.{Numbers, TaskMeaning, action_at, price, applies, after, adds_outside, IsValidFrom, cost_of}
+use Rattle.task_kit.specs.Tasks.{Numbers, TaskMeaning, action_at, price, applies, after, IsValidFrom, cost_of}
 use Rattle.task_kit.specs.Cuts.{CutMeaning, counts, weight_of, weights, IsCutOf, AreLawful, CutLaw}
 use Rattle.task_kit.proofs.StepLemmas.{subset-trans, after_within, applies_more}
 

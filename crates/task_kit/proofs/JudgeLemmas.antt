@@ -1,28 +1,28 @@
 -- Judging a list step by step: what holds of its first steps, and what a fault shows of the whole list.
-use Rattle.std.proofs.Common.{◌≡◌, ℕ, zero, suc, ◌+◌, ◌*◌, ◌^◌, ◌≤◌, ◌<◌, List, [], ◌∷◌, ◌++◌, length, get_or, take, Option, Some, None, is_some, Bool, true, false, ◌&&◌, Fits, w64, refl, sym, ap, ◌∙◌, subst, arith, IsTrue, ◌↔◌}
+use Rattle.std.proofs.Common.{◌≡◌, ℕ, zero, suc, ◌+◌, ◌*◌, ◌^◌, ◌≤◌, ◌<◌, List, [], ◌∷◌, ◌++◌, length, get_or, take, Option, Some, None, is_some, true, Fits, w64, refl, sym, ap, ◌∙◌, subst, arith, IsTrue, ◌↔◌}
 use Rattle.std.specs.List.{slice_get}
 use Rattle.std.proofs.lemmas.Bool.{true≢false, false≢true, and_parts}
 use Rattle.std.proofs.lemmas.List.{take_more, take_all}
-use Rattle.std.proofs.lemmas.Option.{slice_get-get_or, slice_get_within}
+use Rattle.std.proofs.lemmas.Option.{slice_get-get_or}
 use Rattle.std.specs.Cmp.{nat_cmp_total}
 use Rattle.std.specs.FinSet as set
 use Rattle.std.specs.FinSet.{is_subset-contains}
 use Rattle.mre_base.specs.Sets.{BitSet}
 use Rattle.task_kit.specs.declared.judging.Judgement.{Judgement}
 use Rattle.task_kit.specs.declared.judging.Judgement.TheVariants as judgements
-use Rattle.task_kit.specs.Tasks.{Numbers, TaskMeaning, action_at, cost_at, price, applies, after, as_bits, IsValidFrom, IsValid, cost_of, IsLeastMissing, IsFirstLack}
+use Rattle.task_kit.specs.Tasks.{Numbers, TaskMeaning, price, applies, after, as_bits, IsValidFrom, IsValid, cost_of, IsLeastMissing}
 use Rattle.task_kit.specs.Judged.{state_after, DoApply, StopsAt, IsFaultOf, IsJudged, says_valid}
 
 module _ (task : TaskMeaning) where
-  state_after-push : (state : Numbers) (list : List ℕ) (action : ℕ) → state_after task state (list ++ action ∷ []) ≡ after task action (state_after task state list)
+  pub state_after-push : (state : Numbers) (list : List ℕ) (action : ℕ) → state_after task state (list ++ action ∷ []) ≡ after task action (state_after task state list)
   state_after-push state [] action = refl
   state_after-push state (first ∷ list) action = state_after-push (after task first state) list action
 
-  do_apply-push : (state : Numbers) (list : List ℕ) (action : ℕ) → DoApply task state list → applies task action (state_after task state list) ≡ true → DoApply task state (list ++ action ∷ [])
+  pub do_apply-push : (state : Numbers) (list : List ℕ) (action : ℕ) → DoApply task state list → applies task action (state_after task state list) ≡ true → DoApply task state (list ++ action ∷ [])
   do_apply-push state [] action all does = (does, tt)
   do_apply-push state (first ∷ list) action all does = (all.0, do_apply-push (after task first state) list action all.1 does)
 
-  cost_of-push : (list : List ℕ) (action : ℕ) → cost_of task (list ++ action ∷ []) ≡ cost_of task list + price task action
+  pub cost_of-push : (list : List ℕ) (action : ℕ) → cost_of task (list ++ action ∷ []) ≡ cost_of task list + price task action
   cost_of-push [] action = omega arith
   cost_of-push (first ∷ list) action = omega (arith, cost_of-push list action)
 

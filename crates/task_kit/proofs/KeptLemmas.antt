@@ -1,5 +1,5 @@
 -- What the lists of a kept task mean.
-use Rattle.std.proofs.Common.{◌≡◌, ℕ, ◌+◌, ◌≤◌, ◌<◌, List, length, get_or, Option, Some, None, unwrap_or, All, Bool, true, false, ◌&&◌, is_some, sym, ap, ◌∙◌, subst, arith}
+use Rattle.std.proofs.Common.{◌≡◌, ℕ, ◌+◌, ◌≤◌, ◌<◌, List, get_or, Some, unwrap_or, All, sym, ap, ◌∙◌, subst, arith}
 use Rattle.std.specs.Option.{option_map}
 use Rattle.std.proofs.lemmas.List.{get_or_default}
 use Rattle.std.proofs.lemmas.Option.{slice_get-map}
@@ -7,7 +7,7 @@ use Rattle.std.specs.List.{slice_get}
 use Rattle.std.specs.FinSet as set
 use Rattle.mre_base.specs.Sets.{BitSet}
 use Rattle.task_kit.specs.declared.action.TaskAction.{TaskAction}
-use Rattle.task_kit.specs.Tasks.{Numbers, set_of, no_action, ActionMeaning, action_at, after, as_bits, AllBelow, IsAction, IsTask}
+use Rattle.task_kit.specs.Tasks.{set_of, no_action, action_at, after, as_bits, AllBelow, IsAction, IsTask}
 use Rattle.task_kit.specs.Kept.{action_meaning, task_meaning}
 use Rattle.task_kit.proofs.AtomLemmas.{listed_in, same_bits}
 

@@ -7,4 +7,5 @@ pub mod PlaceLemmas
 pub mod QueueLemmas
 pub mod ReachedLemmas
 pub mod SameStates
+pub mod SearchLemmas
 pub mod StepLemmas

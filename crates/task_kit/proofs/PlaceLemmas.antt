@@ -1,5 +1,5 @@
 -- Items at places: in a list with one item more, and in a list with one item changed.
-use Rattle.std.proofs.Common.{◌≡◌, ℕ, zero, suc, ◌+◌, ◌<◌, List, [], ◌∷◌, ◌++◌, length, Option, Some, None, slice_get, slice_set, ◌⊎◌, inl, inr, refl, sym, ap, ◌∙◌, subst, arith}
+use Rattle.std.proofs.Common.{◌≡◌, ℕ, zero, suc, ◌+◌, ◌<◌, List, [], ◌∷◌, ◌++◌, length, Option, Some, None, slice_get, slice_set, ◌⊎◌, inl, inr, refl, sym, ap, arith}
 use Rattle.task_kit.specs.Reached.{StaysIn}
 
 pub none_some : {A : Type 0} (x : A) → ◌≡◌ {A = Option A} None (Some x) → ⊥
@@ -34,7 +34,7 @@ pub push_cases : {A : Type 0} (xs : List A) (x : A) (i : ℕ) (y : A) → slice_
 push_cases [] x zero y e = inr (refl, sym (same_some x y e))
 push_cases [] x (suc i) y e = absurd (none_some y e)
 push_cases (z ∷ xs) x zero y e = inl e
-push_cases (z ∷ xs) x (suc i) y e = elim (push_cases xs x i y e) [ | inl h ↦ inl h | inr h ↦ inr (ap suc h.0, h.1) ]
+push_cases (z ∷ xs) x (suc i) y e = elim (push_cases xs x i y e) [ inl h ↦ inl h | inr h ↦ inr (ap suc h.0, h.1) ]
 
 pub length_pushed : {A : Type 0} (xs : List A) (x : A) → length (xs ++ x ∷ []) ≡ length xs + 1
 length_pushed [] x = refl
@@ -51,7 +51,7 @@ set_cases [] i x j y e = inr e
 set_cases (z ∷ xs) zero x zero y e = inl (refl, sym (same_some x y e))
 set_cases (z ∷ xs) zero x (suc j) y e = inr e
 set_cases (z ∷ xs) (suc i) x zero y e = inr e
-set_cases (z ∷ xs) (suc i) x (suc j) y e = elim (set_cases xs i x j y e) [ | inl h ↦ inl (ap suc h.0, h.1) | inr h ↦ inr h ]
+set_cases (z ∷ xs) (suc i) x (suc j) y e = elim (set_cases xs i x j y e) [ inl h ↦ inl (ap suc h.0, h.1) | inr h ↦ inr h ]
 
 pub stays-trans : {A : Type 0} (xs ys zs : List A) → StaysIn xs ys → StaysIn ys zs → StaysIn xs zs
 stays-trans xs ys zs one two i x e = two i x (one i x e)

@@ -1,10 +1,10 @@
 -- What the changes of a table leave: each state's last way leads to it, and each way to a state.
-use Rattle.std.proofs.Common.{◌≡◌, ℕ, ◌+◌, ◌≤◌, ◌<◌, List, [], ◌∷◌, ◌++◌, length, Option, Some, None, slice_get, slice_set, Contains, ◌⊎◌, inl, inr, refl, sym, ap, ◌∙◌, subst, arith}
+use Rattle.std.proofs.Common.{◌≡◌, ℕ, ◌+◌, ◌≤◌, ◌<◌, [], ◌∷◌, ◌++◌, length, Some, slice_get, slice_set, ◌⊎◌, inl, inr, sym, ap, ◌∙◌, subst, arith}
 use Rattle.mre_base.specs.Sets.{BitSet}
 use Rattle.task_kit.specs.declared.reached.Way.{Way}
-use Rattle.task_kit.specs.Queues.{Waits, Puts}
-use Rattle.task_kit.specs.Reached.{Reached, StaysIn, IsIndexed, HasWay, IsBeaten, nothing, Adds, Notes}
-use Rattle.task_kit.proofs.PlaceLemmas.{same_some, place_within, item_there, stays_push, last_push, push_cases, length_pushed, length_set, set_cases}
+use Rattle.task_kit.specs.Queues.{Puts}
+use Rattle.task_kit.specs.Reached.{Reached, IsIndexed, HasWay, IsBeaten, Adds}
+use Rattle.task_kit.proofs.PlaceLemmas.{place_within, item_there, stays_push, last_push, push_cases, length_pushed, length_set, set_cases}
 
 -- a way with its parts
 abbrev pub way_of : (state cost parent action : ℕ) → Way
@@ -56,8 +56,7 @@ module _ (r : Reached) (indexed : IsIndexed r) where
       → new.ways ≡ r.ways ++ way_of place cost parent action ∷ [] → Puts r.waiting (length r.ways) new.waiting
       → IsIndexed new × Adds r state cost parent action new
   improved new place cost parent action state here states last ways waiting =
-      let within : place < length new.states = omega (arith, place_within r.states place state here, ap length states) in
-      (
+      let within : place < length new.states = omega (arith, place_within r.states place state here, ap length states) in (
         record {
           sized = ap length last ∙ length_set r.last place (length r.ways) ∙ indexed.sized ∙ sym (ap length states);
           held = held;
@@ -69,7 +68,7 @@ module _ (r : Reached) (indexed : IsIndexed r) where
           states = λ i x e. ap (λ xs. slice_get xs i) states ∙ e;
           ways = ways;
           waiting = waiting;
-        }
+        },
       )
     where
       held : (p at : ℕ) → slice_get new.last p ≡ Some at → (way : Way) × (slice_get new.ways at ≡ Some way) × (way.state ≡ p)
@@ -84,8 +83,7 @@ module _ (r : Reached) (indexed : IsIndexed r) where
       → new.ways ≡ r.ways ++ way_of (length r.states) cost parent action ∷ [] → Puts r.waiting (length r.ways) new.waiting
       → IsIndexed new × Adds r state cost parent action new
   appended new cost parent action state states last ways waiting =
-      let longer : length new.states ≡ length r.states + 1 = ap length states ∙ length_pushed r.states state in
-      (
+      let longer : length new.states ≡ length r.states + 1 = ap length states ∙ length_pushed r.states state in (
         record {
           sized = omega (arith, ap length last ∙ length_pushed r.last (length r.ways), indexed.sized, longer);
           held = held;
@@ -97,7 +95,7 @@ module _ (r : Reached) (indexed : IsIndexed r) where
           states = λ i x e. ap (λ xs. slice_get xs i) states ∙ stays_push r.states state i x e;
           ways = ways;
           waiting = waiting;
-        }
+        },
       )
     where
       held : (p at : ℕ) → slice_get new.last p ≡ Some at → (way : Way) × (slice_get new.ways at ≡ Some way) × (way.state ≡ p)

@@ -1,10 +1,10 @@
 -- What a step does to sets of atoms.
-use Rattle.std.proofs.Common.{◌≡◌, ℕ, Bool, true, false, ◌&&◌, ◌||◌, not, refl, sym, ap, ◌∙◌, ◌⊎◌, inl, inr, is_some}
+use Rattle.std.proofs.Common.{◌≡◌, ℕ, true, ◌&&◌, ◌||◌, not, sym, ap, ◌∙◌, inl, inr}
 use Rattle.std.proofs.lemmas.Bool.{and_parts, and_from, or_cases}
 use Rattle.std.specs.Cmp.{nat_cmp_total}
 use Rattle.std.specs.FinSet as set
 use Rattle.std.specs.FinSet.{contains-union, contains-difference, is_subset-contains, contains-is_subset}
-use Rattle.task_kit.specs.Tasks.{Numbers, TaskMeaning, action_at, cost_at, applies, after}
+use Rattle.task_kit.specs.Tasks.{Numbers, TaskMeaning, action_at, applies, after}
 
 pub subset-trans : (s t u : Numbers) → set.is_subset s t ≡ true → set.is_subset t u ≡ true → set.is_subset s u ≡ true
 subset-trans s t u st tu =

@@ -1,5 +1,5 @@
 -- What judging a list of actions on a task answers: that the list is valid and what it costs, or the first place at which it isn't.
-use Rattle.std.specs.Prelude.{ℕ, ◌+◌, ◌≡◌, ◌<◌, Bool, true, false, List, [], ◌∷◌, take, Option, Some, None, slice_get}
+use Rattle.std.specs.Prelude.{ℕ, ◌+◌, ◌≡◌, Bool, true, false, List, [], ◌∷◌, take, Option, Some, None, slice_get}
 use Rattle.std.specs.FinSet as set
 use Rattle.task_kit.specs.declared.judging.Judgement.{Judgement}
 use Rattle.task_kit.specs.declared.judging.Judgement.TheVariants as judgements

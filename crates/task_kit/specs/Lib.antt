@@ -5,4 +5,5 @@ pub mod Judged
 pub mod Kept
 pub mod Queues
 pub mod Reached
+pub mod Searching
 pub mod Tasks

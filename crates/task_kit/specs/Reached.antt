@@ -1,5 +1,5 @@
 -- What a plain search keeps: the states that it reached, the ways to them, and the ways that still wait to be looked at.
-use Rattle.std.specs.Prelude.{ℕ, ◌+◌, ◌≡◌, ◌≤◌, ◌<◌, List, [], ◌∷◌, ◌++◌, length, Some, slice_get, ◌⊎◌}
+use Rattle.std.specs.Prelude.{ℕ, ◌≡◌, ◌≤◌, ◌<◌, List, [], ◌∷◌, ◌++◌, length, Some, slice_get, ◌⊎◌}
 use Rattle.mre_base.specs.Sets.{BitSet}
 use Rattle.task_kit.specs.declared.reached.Way.{Way}
 use Rattle.task_kit.specs.declared.reached.Table.{Table}

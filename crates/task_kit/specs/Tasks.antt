@@ -1,6 +1,6 @@
 -- Tasks on numbers, after STRIPS. Atoms and ground actions are numbers from 0 on, and a state is the set of its true atoms.
 -- In a task with n atoms the number n stands for whatever can never be true: it may be asked for, and no state has it.
-use Rattle.std.specs.Prelude.{ℕ, ◌+◌, ◌^◌, ◌≡◌, ◌≤◌, ◌<◌, Bool, true, false, ◌&&◌, not, is_some, List, [], ◌∷◌, length, Option, None, Some, unwrap_or, slice_get}
+use Rattle.std.specs.Prelude.{ℕ, ◌+◌, ◌^◌, ◌≡◌, ◌<◌, Bool, true, false, ◌&&◌, not, is_some, List, [], ◌∷◌, length, Option, None, Some, unwrap_or, slice_get}
 use Rattle.std.specs.Ordering.{nat_cmp}
 use Rattle.std.specs.FinSet as set
 use Rattle.mre_base.specs.Sets.{BitSet}

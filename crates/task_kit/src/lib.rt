@@ -8,11 +8,13 @@ mod laws;
 mod price;
 mod queue;
 mod reached;
+mod searching;
 mod task;
 mod view;
 
 pub use action::TaskAction;
 pub use judging::{Judgement, judge};
 pub use laws::{law_bounds, law_cuts};
+pub use searching::cheapest_below;
 pub use task::Task;
 pub use view::TaskView;

@@ -72,7 +72,13 @@ impl Table {
     }
 
     /// Keeps a way to a state, unless one that costs no more is there.
-    pub fn note(&mut self, state: &Bits, cost: u64, parent: usize, action: u32) -> Result<(), NoMemory>
+    pub fn note(
+        &mut self,
+        state: &Bits,
+        cost: u64,
+        parent: usize,
+        action: u32,
+    ) -> Result<(), NoMemory>
         requires { IsIndexed (reached self.old) }
         ensures indexed { OnOk result (IsIndexed (reached self.new)) }
         ensures notes { OnOk result
@@ -98,7 +104,13 @@ impl Table {
     }
 
     // Adds a way to the state at a place, which waits from now on.
-    fn add_way(&mut self, state: usize, cost: u64, parent: usize, action: u32) -> Result<(), NoMemory>
+    fn add_way(
+        &mut self,
+        state: usize,
+        cost: u64,
+        parent: usize,
+        action: u32,
+    ) -> Result<(), NoMemory>
         ensures ways { OnOk result (self.new.ways.items ≡ self.old.ways.items
             ++ (record { state = state; cost = cost; parent = parent; action = action }) ∷ []) }
         ensures waiting { OnOk result
