@@ -1,9 +1,13 @@
 -- The law of cuts. A cut is open at a state that its set contains. At each step an open cut stays open or counts the action, and at the goal no cut is open.
-use Rattle.std.proofs.Common.{◌≡◌, ℕ, ◌+◌, ◌≤◌, List, [], ◌∷◌, Bool, true, false, cond, refl, sym, ap, ◌∙◌, arith, All, ◌⊎◌, inl, inr}
+use Rattle.std.proofs.Common.{◌≡◌, ℕ, ◌+◌, ◌≤◌, List, [], ◌∷◌, Bool, true, false, ◌&&◌, not, nat_lt, ◌<◌, cond, refl, sym, ap, ◌∙◌, arith, All, ◌⊎◌, inl, inr}
 use Rattle.std.proofs.lemmas.Bool.{and_from, cases_Bool, not_from_false, both_ways, false_from_ne_true}
 use Rattle.std.proofs.lemmas.List.Elements.{All-head, All-tail}
+use Rattle.std.proofs.lemmas.Bool.Decides.{nat_tests}
 use Rattle.std.specs.FinSet as set
-use Rattle.task_kit.specs.Tasks.{Numbers, TaskMeaning, action_at, price, applies, after, IsValidFrom, cost_of}
+use Rattle.mre_base.specs.SameSets.{same_members}
+use Rattle.mre_base.proofs.SetsBelow.{contains-set_below}
+use Rattle.task_kit.specs.Kept.{all_but}
+use Rattle.task_kit.specs.Tasks.{Numbers, TaskMeaning, set_of, AllBelow, action_at, price, applies, after, IsValidFrom, cost_of}
 use Rattle.task_kit.specs.Cuts.{CutMeaning, counts, weight_of, weights, IsCutOf, AreLawful, CutLaw}
 use Rattle.task_kit.proofs.StepLemmas.{subset-trans, after_within, applies_more}
 
@@ -59,3 +63,15 @@ open_within task start cuts lawful state (action ∷ list) valid =
 
 pub cut_law : CutLaw
 cut_law task state cuts lawful list valid = omega (arith, sym (all_open task state cuts lawful.each), open_within task state cuts lawful state list valid)
+
+-- a number is in what a cut's list leaves exactly where it is below the bound and isn't listed
+pub contains-all_but : (bound : ℕ) (lacks : List ℕ) (k : ℕ) → set.contains (all_but bound lacks) k ≡ (nat_lt k bound && not (set.contains (set_of lacks) k))
+contains-all_but bound lacks k = contains-set_below (λ j. not (set.contains (set_of lacks) j)) bound k
+
+both_below : (k bound : ℕ) (listed has : Bool) → (has ≡ true → k < bound) → (k < bound → listed ≡ not has) → (nat_lt k bound && not listed) ≡ has
+both_below k bound listed has below agree = grind (arith, nat_tests)
+
+-- a set of numbers below the bound is what a list leaves that has exactly the others
+pub all_but-is : (bound : ℕ) (lacks : List ℕ) (among : Numbers) → AllBelow bound among → ((k : ℕ) → k < bound → set.contains (set_of lacks) k ≡ not (set.contains among k)) → all_but bound lacks ≡ among
+all_but-is bound lacks among below others =
+    same_members (all_but bound lacks) among (λ k. contains-all_but bound lacks k ∙ both_below k bound (set.contains (set_of lacks) k) (set.contains among k) (below k) (others k))

@@ -56,8 +56,9 @@ back_more ways place at back new way later here e is rest more =
 pub back_all : (ways : List Way) (place at : ℕ) (back : List ℕ) → at ≡ 0 → ((rest : List ℕ) → IsWayBack ways at rest → IsWayBack ways place (back ++ rest)) → IsWayBack ways place back
 back_all ways place at back e is = subst (IsWayBack ways place) (nothing_more back) (is [] e)
 
-pub back_over : (one two : List Way) (place : ℕ) (back : List ℕ) → one ≡ two → IsWayBack one place back → IsWayBack two place back
-back_over one two place back e is = subst (λ ways. IsWayBack ways place back) e is
+-- what waits plays no part in the way back
+pub back_over : (r s : Reached) (place : ℕ) (back : List ℕ) → s ≡ record { states = r.states; last = r.last; ways = r.ways; waiting = s.waiting } → IsWayBack s.ways place back → IsWayBack r.ways place back
+back_over r s place back e is = subst (λ x. IsWayBack x.ways place back) e is
 
 module _ (task : TaskMeaning) where
   same_numbers : (s t : Numbers) (bits : BitSet) → bits ≡ as_bits task s → bits ≡ as_bits task t → s ≡ t

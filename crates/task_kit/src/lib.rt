@@ -3,6 +3,7 @@
 
 mod action;
 mod atoms;
+mod cut;
 mod judging;
 mod laws;
 mod price;
@@ -10,9 +11,12 @@ mod queue;
 mod reached;
 mod searching;
 mod task;
+#[cfg(test)]
+mod tests;
 mod view;
 
 pub use action::TaskAction;
+pub use cut::{Cut, Cuts};
 pub use judging::{Judgement, judge};
 pub use laws::{law_bounds, law_cuts};
 pub use searching::cheapest_below;

@@ -62,5 +62,5 @@ returns g c =
     found_cheapest seen c.args.k c.loop-at.found.bound c.in-Some-foil.place r c.in_ok-back-in-Some-foil.back.items c.in_ok-listed-in-Some-foil.field-0 c.loop-at.invariant.trail
     (none_cheaper seen c.loop-at.found.bound r c.loop-at.invariant.trail c.loop-at.invariant.settled c.in_default.ensures.none)
     (subst (IsFound seen r c.args.k c.loop-at.found.bound) c.in-Some-foil.is c.loop-at.invariant.found)
-    (back_over c.next.new.self.ways.items r.ways c.in-Some-foil.place c.in_ok-back-in-Some-foil.back.items (ap (λ x. x.ways) c.in_default.ensures.rest) c.in_ok-back-in-Some-foil.ensures)
+    (back_over r (reached c.next.new.self) c.in-Some-foil.place c.in_ok-back-in-Some-foil.back.items c.in_default.ensures.rest c.in_ok-back-in-Some-foil.ensures)
     (c.in_ok-listed-in-Some-foil.ensures ∙ c.turn_round.ensures)
