@@ -1,4 +1,5 @@
 pub mod Calls
+pub mod Names
 pub mod Requested
 pub mod Statuses
 pub mod Written

@@ -1,12 +1,15 @@
 -- What the reads of a request's files ask of the shelf, and what they get from it.
-use Rattle.std.specs.Prelude.{◌≡◌, ◌≤◌, ◌<◌, ◌+◌, ℕ, Bool, true, false, List, [], ◌∷◌, ◌++◌, length, map, take, slice_index_or, All, Option, Some, Result, Ok, Err, option_map, IfSome, IsSomeAnd}
+use Rattle.std.specs.Prelude.{◌≡◌, ◌≤◌, ◌<◌, ◌+◌, ℕ, Bool, true, false, List, [], ◌∷◌, ◌++◌, length, map, take, slice_index_or, All, Option, None, Some, Result, Ok, Err, option_map, IfSome, IsSomeAnd}
 use Rattle.std.specs.FinMap as files_map
 use Rattle.mre_outside.specs.Shelves.{Files}
 use Rattle.mre_outside.specs.declared.shelf.Act.TheVariants.{Read}
 use Rattle.mre_outside.specs.declared.shelf.ShelfCall.{ShelfCall}
-use Rattle.mre_top.specs.declared.reading.TheConstants.{FILE_LIMIT}
 use Rattle.mre_top.specs.declared.refusal.Refusal.{Refusal}
 use Rattle.mre_top.specs.declared.refusal.Refusal.TheVariants.{ReadFailed, TooLong, NoMemory}
+
+-- how many bytes a file may have
+abbrev pub file_limit : ℕ
+file_limit = 4194304
 
 -- the name at a place, counted from 0
 abbrev pub name_at : List (List ℕ) → ℕ → List ℕ
@@ -24,10 +27,11 @@ reads names = map (read_of false) names
 abbrev pub asked_then : Option (List ShelfCall) → List ShelfCall → Option (List ShelfCall)
 asked_then asked calls = option_map (λ before. before ++ calls) asked
 
--- these are all the bytes under the names, where the shelf tells what it holds, and none are more than a file may have
+-- these are all the bytes under the names, one each, where the shelf tells what it holds, and none are more than a file may have
 pub record AreRead (held : Option Files) (names : List (List ℕ)) (contents : List (List ℕ)) : Type 0 where
+  pub counted : length contents ≡ length names
   pub whole : IfSome held (λ files. map (files_map.get files) names ≡ map Some contents)
-  pub within : All (λ bytes. length bytes ≤ FILE_LIMIT) contents
+  pub within : All (λ bytes. length bytes ≤ file_limit) contents
 
 -- each of the names can be read whole
 abbrev pub AreReadable : Option Files → List (List ℕ) → Type 0
@@ -35,13 +39,13 @@ AreReadable held names = (contents : List (List ℕ)) × AreRead held names cont
 
 -- more bytes than a file may have stand under the name, where the shelf tells
 abbrev pub IsTooLong : Option Files → List ℕ → Type 0
-IsTooLong held name = IfSome held (λ files. IsSomeAnd (files_map.get files name) (λ bytes. FILE_LIMIT < length bytes))
+IsTooLong held name = IfSome held (λ files. IsSomeAnd (files_map.get files name) (λ bytes. file_limit < length bytes))
 
 -- a file is too long, and each before it can be read whole
 abbrev pub IsFirstTooLong : Option Files → List (List ℕ) → Type 0
 IsFirstTooLong held names = (file : ℕ) × (file < length names) × AreReadable held (take file names) × IsTooLong held (name_at names file)
 
--- the reading of the names, one after another, ended so at the first that was not read whole, after these calls
+-- the reading of the names, one after another, ended so at the first that was not read whole, or memory ran out after some of them; and these were the calls
 abbrev pub StopsReading : List (List ℕ) → Option Files → Refusal → List ShelfCall → Type 0
 StopsReading names held (ReadFailed file) calls =
     (file < length names) × AreReadable held (take file names) × (calls ≡ reads (take file names) ++ read_of true (name_at names file) ∷ [])
@@ -54,16 +58,20 @@ StopsReading names held _ calls = ⊥
 abbrev pub Stops : List (List ℕ) → Option Files → Option (List ShelfCall) → Option (List ShelfCall) → Refusal → Type 0
 Stops names held asked_old asked_new refusal = (calls : List ShelfCall) × StopsReading names held refusal calls × (asked_new ≡ asked_then asked_old calls)
 
+-- a sound shelf fails only at a name that it doesn't hold
+abbrev pub LacksOne : Option Files → List (List ℕ) → Type 0
+LacksOne held names = IfSome held (λ files. (file : ℕ) × (file < length names) × (files_map.get files (name_at names file) ≡ None))
+
 -- the refusal is that the shelf failed at a reading
 abbrev pub IsReadFailed : Refusal → Type 0
 IsReadFailed (ReadFailed file) = Unit {0}
 IsReadFailed _ = ⊥
 
--- ---- one file
+-- ---- the reading of one file
 -- these are all the bytes under the name, where the shelf tells, and not more than a file may have
 pub record IsRead (held : Option Files) (name bytes : List ℕ) : Type 0 where
   pub whole : IfSome held (λ files. files_map.get files name ≡ Some bytes)
-  pub within : length bytes ≤ FILE_LIMIT
+  pub within : length bytes ≤ file_limit
 
 -- the reading of one file ended so
 abbrev pub StopsAt : List (List ℕ) → ℕ → Option Files → Refusal → Type 0

@@ -14,15 +14,16 @@ abbrev pub is_name : List ℕ → Bool
 is_name [] = false
 is_name (byte ∷ bytes) = true
 
-abbrev pub are_five : List (List ℕ) → Bool
-are_five words = nat_eq (length words) 5 && list_all is_name words
+-- the words are five names
+abbrev pub are_five_names : List (List ℕ) → Bool
+are_five_names words = nat_eq (length words) 5 && list_all is_name words
 
 -- `explain mce` and five names; any other list of words is no request
 abbrev pub requested : List (List ℕ) → Option Request
 requested [] = None
 requested (command ∷ []) = None
 requested (command ∷ kind ∷ files) =
-    if is_word command (codes "explain") && (is_word kind (codes "mce") && are_five files) then Some (record { kind = Mce; files = files }) else None
+    if is_word command (codes "explain") && (is_word kind (codes "mce") && are_five_names files) then Some (record { kind = Mce; files = files }) else None
 
 -- the names of the files of a request, in the order of the words
 abbrev pub names_in : Option Request → List (List ℕ)

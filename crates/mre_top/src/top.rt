@@ -3,7 +3,7 @@ ghost use Rattle.std.specs.String.{string_bytes};
 ghost use Rattle.mre_outside.specs.Faults.{Rose};
 ghost use Rattle.mre_top.specs.declared.refusal.Refusal.{Refusal};
 ghost use Rattle.mre_top.specs.Endings.{IsRefused, IsServed};
-ghost use Rattle.mre_top.specs.Reads.{IsReadFailed, AreReadable, IsFirstTooLong};
+ghost use Rattle.mre_top.specs.Reads.{IsReadFailed, AreReadable, IsFirstTooLong, LacksOne};
 ghost use Rattle.mre_top.specs.Refusals.{IsOfFile};
 ghost use Rattle.mre_top.specs.Requests.{requested, names_of};
 ghost use Rattle.mre_top.specs.Telling.{IsTold};
@@ -18,7 +18,7 @@ use std::alloc::Global;
 /// How many nodes a search may log where the words give no number.
 pub const NODE_LIMIT: u32 = 200_000;
 
-/// The answer that was printed: the kind of explanation and the told differences.
+/// The answer that is printed: the kind of explanation and the told differences.
 #[derive(Debug, Drop)]
 pub struct Answer {
     pub kind: Kind,
@@ -28,15 +28,15 @@ pub struct Answer {
 /// How a call ended.
 #[derive(Drop)]
 pub struct Outcome {
-    /// 0 where an answer was printed whole.
+    /// What the program ends with. No status is 0 while nothing is explained.
     pub status: u8,
     pub answer: Option<Answer>,
-    /// The nodes of this call's searches.
+    /// The nodes of this call's searches, of which there are none yet.
     pub log: NodeLog,
 }
 
-/// Does everything that the program does: takes its words, the shelf that holds the files, and the two sinks that the
-/// answer and the refusals are written on.
+/// Does everything that the program does: takes its words, the shelf that holds the files, and two sinks, one for answers and one for
+/// refusals. Nothing is explained yet: where every file can be read the call ends with status 5.
 pub fn explain_top<H: Shelf, S: Sink, E: Sink>(
     alloc: Global,
     words: &[String],
@@ -59,15 +59,21 @@ pub fn explain_top<H: Shelf, S: Sink, E: Sink>(
 
     // What stays.
     ensures held { H.held shelf.new ≡ H.held shelf.old }
-    ensures out { S.written out.new ≡ S.written out.old }
+    ensures out { out.new ≡ out.old }
+    ensures shelf_faults { H.faults shelf.old ≤ H.faults shelf.new }
+    ensures sound { H.is_sound shelf.old → result.status ≡ 3 →
+        LacksOne (H.held shelf.old) (names_of (map string_bytes words.now)) }
     ensures answer { IsNone result.answer }
-    ensures log { result.log ≡ record { limit = NODE_LIMIT; nodes = [] } }
+    ensures log { result.log ≡ record { limit = 200000; nodes = [] } }
 {
     let _ = out;
     run(alloc, words, shelf, faults)
 }
 
 fn run<H: Shelf, E: Sink>(alloc: Global, words: &[String], shelf: &mut H, faults: &mut E) -> Outcome
+    ensures shelf_faults { H.faults shelf.old ≤ H.faults shelf.new }
+    ensures sound { H.is_sound shelf.old → result.status ≡ 3 →
+        LacksOne (H.held shelf.old) (names_of (map string_bytes words.now)) }
     ensures refused { (refusal : Refusal)
         × IsRefused (map string_bytes words.now) (H.held shelf.old) (H.asked shelf.old) (H.asked shelf.new) refusal
         × IsTold (names_of (map string_bytes words.now)) refusal result.status
@@ -75,7 +81,7 @@ fn run<H: Shelf, E: Sink>(alloc: Global, words: &[String], shelf: &mut H, faults
     ensures read_failed { result.status ≡ 3 → Rose (H.faults shelf.old) (H.faults shelf.new) }
     ensures held { H.held shelf.new ≡ H.held shelf.old }
     ensures answer { IsNone result.answer }
-    ensures log { result.log ≡ record { limit = NODE_LIMIT; nodes = [] } }
+    ensures log { result.log ≡ record { limit = 200000; nodes = [] } }
 {
     match read_words(alloc, words) {
         Ok(request) => serve(alloc, &request, shelf, faults),
@@ -92,6 +98,8 @@ fn serve<H: Shelf, E: Sink>(
     faults: &mut E,
 ) -> Outcome
     requires { 0 < length request.now.files }
+    ensures shelf_faults { H.faults shelf.old ≤ H.faults shelf.new }
+    ensures sound { H.is_sound shelf.old → result.status ≡ 3 → LacksOne (H.held shelf.old) request.now.files }
     ensures refused { (refusal : Refusal)
         × IsServed request.now.files (H.held shelf.old) (H.asked shelf.old) (H.asked shelf.new) refusal
         × IsTold request.now.files refusal result.status
@@ -99,7 +107,7 @@ fn serve<H: Shelf, E: Sink>(
     ensures read_failed { result.status ≡ 3 → Rose (H.faults shelf.old) (H.faults shelf.new) }
     ensures held { H.held shelf.new ≡ H.held shelf.old }
     ensures answer { IsNone result.answer }
-    ensures log { result.log ≡ record { limit = NODE_LIMIT; nodes = [] } }
+    ensures log { result.log ≡ record { limit = 200000; nodes = [] } }
 {
     let refusal = refusal_of(alloc, request, shelf);
     refused(alloc, refusal, &request.files, faults)
@@ -108,6 +116,8 @@ fn serve<H: Shelf, E: Sink>(
 // Why the request is not answered.
 fn refusal_of<H: Shelf>(alloc: Global, request: &Request, shelf: &mut H) -> Refusal
     requires { 0 < length request.now.files }
+    ensures shelf_faults { H.faults shelf.old ≤ H.faults shelf.new }
+    ensures sound { H.is_sound shelf.old → IsReadFailed result → LacksOne (H.held shelf.old) request.now.files }
     ensures cause { IsServed request.now.files (H.held shelf.old) (H.asked shelf.old) (H.asked shelf.new) result }
     ensures of_file { IsOfFile request.now.files result }
     ensures read_failed { IsReadFailed result → Rose (H.faults shelf.old) (H.faults shelf.new) }
@@ -124,7 +134,7 @@ fn refused<E: Sink>(alloc: Global, refusal: Refusal, files: &List<Text>, faults:
     ensures told { IsTold files.now refusal result.status (E.written faults.old) (E.written faults.new)
         (E.faults faults.old) (E.faults faults.new) }
     ensures answer { IsNone result.answer }
-    ensures log { result.log ≡ record { limit = NODE_LIMIT; nodes = [] } }
+    ensures log { result.log ≡ record { limit = 200000; nodes = [] } }
 {
     Outcome {
         status: tell(alloc, refusal, files, faults),

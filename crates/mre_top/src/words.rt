@@ -1,7 +1,7 @@
 ghost use Rattle.std.specs.Prelude.{◌≡◌, None, Some, IfOk, IsErrOf, map};
 ghost use Rattle.std.specs.List.{list_all};
 ghost use Rattle.std.specs.String.{string_bytes};
-ghost use Rattle.mre_top.specs.Requests.{requested, are_five, is_name as is_filled};
+ghost use Rattle.mre_top.specs.Requests.{requested, are_five_names as are_five, is_name as is_filled};
 
 use mre_base::{Kind, List, NoMemory, Text};
 use std::alloc::Global;
