@@ -1,0 +1,60 @@
+-- The facts that every model has: what it lists fits its vocabulary, and no feature is listed twice.
+use Rattle.std.specs.Prelude.{ℕ, ◌==◌, ◌&&◌, nat_lt, Bool, true, false, List, [], ◌∷◌, length}
+use Rattle.std.specs.List.{list_all}
+use Rattle.model_kit.specs.declared.vocabulary.Vocabulary.{Vocabulary}
+use Rattle.model_kit.specs.declared.vocabulary.Signature.{Signature}
+use Rattle.model_kit.specs.declared.atom.GroundAtom.{GroundAtom}
+use Rattle.model_kit.specs.declared.atom.SchemaAtom.{SchemaAtom}
+use Rattle.model_kit.specs.declared.model.Schema.{Schema}
+use Rattle.model_kit.specs.declared.model.CostExpr.{CostExpr}
+use Rattle.model_kit.specs.declared.model.CostExpr.TheVariants.{Number, Call}
+use Rattle.model_kit.specs.Names.{are_distinct}
+use Rattle.model_kit.specs.Same.{same_numbers, same_atom, same_schema_atom}
+use Rattle.model_kit.specs.Vocabulary.{is_object_of, is_term_of, fits_signature, is_ground_atom, is_schema_atom}
+
+-- ground atoms of the vocabulary, without repeats
+abbrev pub are_ground_atoms : Vocabulary → List GroundAtom → Bool
+are_ground_atoms words atoms = list_all (is_ground_atom words) atoms && are_distinct same_atom atoms
+
+-- atoms of a schema with these parameters, without repeats
+abbrev pub are_schema_atoms : Vocabulary → List ℕ → List SchemaAtom → Bool
+are_schema_atoms words params atoms = list_all (is_schema_atom words params) atoms && are_distinct same_schema_atom atoms
+
+-- a number, or a function with terms that fit its parameters
+abbrev pub is_cost : Vocabulary → List ℕ → CostExpr → Bool
+is_cost words params (Number n) = true
+is_cost words params (Call function args) = fits_signature (is_term_of words params) words.functions function args
+
+-- a schema of the action with this signature
+abbrev pub is_schema : Vocabulary → Schema → Signature → Bool
+is_schema words schema action =
+    are_schema_atoms words action.params schema.pre
+    && are_schema_atoms words action.params schema.add
+    && are_schema_atoms words action.params schema.del
+    && is_cost words action.params schema.cost
+
+-- one schema for each action, in the order of the actions
+abbrev pub are_schemas : Vocabulary → List Schema → List Signature → Bool
+are_schemas words [] [] = true
+are_schemas words [] (action ∷ actions) = false
+are_schemas words (schema ∷ schemas) [] = false
+are_schemas words (schema ∷ schemas) (action ∷ actions) = is_schema words schema action && are_schemas words schemas actions
+
+-- values of functions at objects that fit, at most one at the same objects
+abbrev pub are_values : Vocabulary → List (ℕ × List ℕ × ℕ) → Bool
+are_values words values =
+    list_all (λ v. fits_signature (is_object_of words) words.functions v.0 v.1) values
+    && are_distinct (λ v w. (v.0 == w.0) && same_numbers v.1 w.1) values
+
+-- numbers of actions, without repeats
+abbrev pub are_unknown : Vocabulary → List ℕ → Bool
+are_unknown words unknown = list_all (λ action. nat_lt action (length words.actions)) unknown && are_distinct (λ a b. a == b) unknown
+
+-- the lists are those of a model: initial facts, goal facts, schemas, function values and unknown schemas
+abbrev pub is_model : Vocabulary → List GroundAtom → List GroundAtom → List Schema → List (ℕ × List ℕ × ℕ) → List ℕ → Bool
+is_model words init goal schemas values unknown =
+    are_ground_atoms words init
+    && are_ground_atoms words goal
+    && are_schemas words schemas words.actions
+    && are_values words values
+    && are_unknown words unknown

@@ -1,0 +1,18 @@
+//! Planning models as plain data, what plans and explanations mean over them, and the judging of a plan.
+#![tactic(auto)]
+
+mod action;
+mod atom;
+mod judging;
+mod laws;
+mod model;
+mod printing;
+mod vocabulary;
+
+pub use action::{GroundAction, Plan};
+pub use atom::{GroundAtom, SchemaAtom, Term};
+pub use judging::{NamedJudgement, judge_names};
+pub use laws::{law_mce, law_mme, law_order};
+pub use model::{CostExpr, Model, Schema};
+pub use printing::{print_atom, print_schema_atom};
+pub use vocabulary::{Signature, Vocabulary};

@@ -1,0 +1,38 @@
+ghost use Rattle.std.specs.Prelude.{IsTrue};
+ghost use Rattle.model_kit.specs.Features.{is_model};
+
+use crate::{GroundAtom, SchemaAtom, Term, Vocabulary};
+use mre_base::List;
+
+/// What an action schema costs.
+#[derive(Debug, Drop)]
+pub enum CostExpr {
+    Number(u32),
+    /// The value of a function at the objects that the terms stand for.
+    Call { function: u32, args: List<Term> },
+}
+
+/// An action schema: its preconditions, the atoms that it adds and deletes, and its cost.
+#[derive(Debug, Drop)]
+pub struct Schema {
+    pub pre: List<SchemaAtom>,
+    pub add: List<SchemaAtom>,
+    pub del: List<SchemaAtom>,
+    pub cost: CostExpr,
+}
+
+/// A planning model (STRIPS with types and action costs), by the numbers of its words.
+#[derive(Debug, Drop)]
+pub struct Model {
+    pub words: Vocabulary,
+    /// The atoms that are true at the start.
+    pub init: List<GroundAtom>,
+    pub goal: List<GroundAtom>,
+    /// One schema for each action of the words, in their order.
+    pub schemas: List<Schema>,
+    /// Each function value: the function, its objects and the number.
+    pub values: List<(u32, List<u32>, u32)>,
+    /// The schemas that the model doesn't know.
+    pub unknown: List<u32>,
+    pub ghost sound: { IsTrue (is_model words init goal schemas values unknown) },
+}
