@@ -6,14 +6,14 @@ use Rattle.model_kit.specs.declared.action.GroundAction.{GroundAction}
 use Rattle.model_kit.specs.declared.judging.NamedJudgement.{NamedJudgement}
 use Rattle.model_kit.specs.declared.judging.NamedJudgement.TheVariants.{Valid, Fails, NoCost, GoalMissing}
 use Rattle.model_kit.specs.Places.{Goal, Meaning}
-use Rattle.model_kit.specs.Printed.{print_ground_atom}
+use Rattle.model_kit.specs.Printed.{atom_form}
 use Rattle.model_kit.specs.Differences.{IsPrintedBefore}
 use Rattle.model_kit.specs.Runs.{State, Has, cost_of, Needs, Leads, Initial, IsValid, cost}
 
 -- the atom has the property, and is printed before each other atom that has it
 pub record IsFirstPrinted (words : Vocabulary) (P : GroundAtom → Type 0) (atom : GroundAtom) : Type 0 where
   pub has : P atom
-  pub first : (other : GroundAtom) → P other → other ≢ atom → IsPrintedBefore (print_ground_atom words atom) (print_ground_atom words other)
+  pub first : (other : GroundAtom) → P other → other ≢ atom → IsPrintedBefore (atom_form words atom) (atom_form words other)
 
 -- the atom is a precondition of the action and isn't in the state
 abbrev pub Lacks : Meaning → GroundAction → State → GroundAtom → Type 0

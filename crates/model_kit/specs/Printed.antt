@@ -17,30 +17,34 @@ abbrev pub object_name : Vocabulary → ℕ → List ℕ
 object_name words object = option_map_or (λ entry. entry.0) (slice_get words.objects object) []
 
 -- a parameter is printed by its position from 1, as `?1`
-abbrev pub print_term : Vocabulary → Term → List ℕ
-print_term words (Param i) = codes "?" ++ decimal (i + 1)
-print_term words (Object object) = object_name words object
+abbrev pub term_form : Vocabulary → Term → List ℕ
+term_form words (Param i) = codes "?" ++ decimal (i + 1)
+term_form words (Object object) = object_name words object
+
+-- each argument after a blank
+abbrev pub args_form : List (List ℕ) → List ℕ
+args_form args = flat_map (λ arg. codes " " ++ arg) args
 
 -- `(NAME A1 A2)`
-abbrev pub print_form : List ℕ → List (List ℕ) → List ℕ
-print_form name args = codes "(" ++ name ++ flat_map (λ arg. codes " " ++ arg) args ++ codes ")"
+abbrev pub form : List ℕ → List (List ℕ) → List ℕ
+form name args = codes "(" ++ name ++ args_form args ++ codes ")"
 
-abbrev pub print_ground_atom : Vocabulary → GroundAtom → List ℕ
-print_ground_atom words atom = print_form (name_of words.predicates atom.predicate) (map (object_name words) atom.objects)
+abbrev pub atom_form : Vocabulary → GroundAtom → List ℕ
+atom_form words atom = form (name_of words.predicates atom.predicate) (map (object_name words) atom.objects)
 
-abbrev pub print_atom_of_schema : Vocabulary → SchemaAtom → List ℕ
-print_atom_of_schema words atom = print_form (name_of words.predicates atom.predicate) (map (print_term words) atom.args)
+abbrev pub schema_atom_form : Vocabulary → SchemaAtom → List ℕ
+schema_atom_form words atom = form (name_of words.predicates atom.predicate) (map (term_form words) atom.args)
 
-abbrev pub print_action : Vocabulary → GroundAction → List ℕ
-print_action words action = print_form (name_of words.actions action.schema) (map (object_name words) action.objects)
+abbrev pub action_form : Vocabulary → GroundAction → List ℕ
+action_form words action = form (name_of words.actions action.schema) (map (object_name words) action.objects)
 
 -- the printed form by which a place is ordered among those of its kind; there is one knowledge and one cost of an action
 abbrev pub printed : Vocabulary → Place → List ℕ
-printed words (Init atom) = print_ground_atom words atom
-printed words (Goal atom) = print_ground_atom words atom
+printed words (Init atom) = atom_form words atom
+printed words (Goal atom) = atom_form words atom
 printed words (Knows action) = []
-printed words (Pre action atom) = print_atom_of_schema words atom
-printed words (Add action atom) = print_atom_of_schema words atom
-printed words (Del action atom) = print_atom_of_schema words atom
+printed words (Pre action atom) = schema_atom_form words atom
+printed words (Add action atom) = schema_atom_form words atom
+printed words (Del action atom) = schema_atom_form words atom
 printed words (Cost action) = []
-printed words (Value f xs) = print_form (name_of words.functions f) (map (object_name words) xs)
+printed words (Value f xs) = form (name_of words.functions f) (map (object_name words) xs)

@@ -1,11 +1,12 @@
-ghost use Rattle.std.specs.Prelude.{◌==◌, ◌&&◌, ℕ};
+ghost use Rattle.std.specs.Prelude.{◌≡◌, ◌==◌, IfOk};
 ghost use Rattle.std.specs.Cmp.{partial_order_from_own_ties};
 ghost use Rattle.std.specs.Cmp.Rules.{comparing};
 ghost use Rattle.std.specs.Cmp.Lexicographic.{pointwise, slice_cmp};
 ghost use Rattle.std.specs.Ordering.{nat_cmp, on, then_cmp, eq_of_both, as_partial_cmp};
 ghost use Rattle.std.proofs.Common.{rules};
 
-use mre_base::List;
+use mre_base::{List, NoMemory};
+use std::alloc::Global;
 use std::cmp::Ordering;
 
 /// An argument in an action schema.
@@ -69,5 +70,16 @@ impl PartialOrd for GroundAtom {
 
     fn partial_cmp(&self, other: &GroundAtom) -> Option<Ordering> {
         Some(self.cmp(other))
+    }
+}
+
+impl GroundAtom {
+    pub fn copy(&self, alloc: Global) -> Result<GroundAtom, NoMemory>
+        ensures ok { IfOk result (λ made. made ≡ self.now) }
+    {
+        Ok(GroundAtom {
+            predicate: self.predicate,
+            objects: self.objects.copy(alloc)?,
+        })
     }
 }

@@ -3,9 +3,12 @@ ghost use Rattle.model_kit.specs.Vocabulary.{IsGroundAction};
 ghost use Rattle.model_kit.specs.Places.{meaning};
 ghost use Rattle.model_kit.specs.Judgement.{Judges};
 
-use crate::{GroundAtom, Model, Plan};
-use mre_base::NoMemory;
+use crate::state::{initial_state, instances, successor};
+use crate::values::{FunctionTerm, price, value_table};
+use crate::{GroundAction, GroundAtom, Model, Plan, Vocabulary, print_atom};
+use mre_base::{List, NoMemory, Text};
 use std::alloc::Global;
+use std::collections::{BTreeMap, BTreeSet};
 
 /// What is to be said of a plan in a model. Steps are counted from 1.
 #[derive(Debug, Drop)]
@@ -27,5 +30,77 @@ pub fn judge_names(alloc: Global, model: &Model, plan: &Plan) -> Result<NamedJud
     ensures judged { IfOk result (Judges model.now.words (meaning model.now) plan.now.steps) }
     ensures only { IfOk result (λ judgement. (other : NamedJudgement) → Judges model.now.words (meaning model.now) plan.now.steps other → other ≡ judgement) }
 {
-    Err(NoMemory)
+    let values = value_table(alloc, &model.values)?;
+    let mut state = initial_state(alloc, &model.init)?;
+    let mut cost = 0u64;
+    for place in 0..plan.steps.len() {
+        let action = plan.steps.item(place);
+        let step = place as u32 + 1;
+        match take_step(alloc, model, &values, &mut state, action)? {
+            Step::Taken { cost: more } => cost += u64::from(more),
+            Step::Lacks { atom } => return Ok(NamedJudgement::Fails { step, atom }),
+            Step::Unpriced => return Ok(NamedJudgement::NoCost { step }),
+        }
+    }
+    match first_missing(alloc, &model.words, &state, &model.goal)? {
+        Some(atom) => Ok(NamedJudgement::GoalMissing { atom }),
+        None => Ok(NamedJudgement::Valid { cost }),
+    }
+}
+
+#[derive(Drop)]
+enum Step {
+    Taken { cost: u32 },
+    Lacks { atom: GroundAtom },
+    Unpriced,
+}
+
+// Takes an action in a state, or says why it doesn't apply.
+fn take_step(
+    alloc: Global,
+    model: &Model,
+    values: &BTreeMap<FunctionTerm, u32>,
+    state: &mut BTreeSet<GroundAtom>,
+    action: &GroundAction,
+) -> Result<Step, NoMemory> {
+    let schema = model.schemas.item(action.schema as usize);
+    let needed = instances(alloc, &schema.pre, &action.objects)?;
+    if let Some(atom) = first_missing(alloc, &model.words, state, &needed)? {
+        return Ok(Step::Lacks { atom });
+    }
+    match price(alloc, model, values, action)? {
+        Some(cost) => {
+            successor(alloc, state, schema, &action.objects)?;
+            Ok(Step::Taken { cost })
+        }
+        None => Ok(Step::Unpriced),
+    }
+}
+
+// The atom that is printed first among those that the state lacks.
+fn first_missing(
+    alloc: Global,
+    words: &Vocabulary,
+    state: &BTreeSet<GroundAtom>,
+    atoms: &List<GroundAtom>,
+) -> Result<Option<GroundAtom>, NoMemory> {
+    let mut best: Option<(usize, Text)> = None;
+    for place in 0..atoms.len() {
+        let atom = atoms.item(place);
+        if state.contains(atom) {
+            continue;
+        }
+        let text = print_atom(alloc, words, atom)?;
+        let is_first = match &best {
+            Some((_, least)) => text.bytes() < least.bytes(),
+            None => true,
+        };
+        if is_first {
+            best = Some((place, text));
+        }
+    }
+    match best {
+        Some((place, _)) => Ok(Some(atoms.item(place).copy(alloc)?)),
+        None => Ok(None),
+    }
 }

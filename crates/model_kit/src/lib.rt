@@ -7,6 +7,8 @@ mod judging;
 mod laws;
 mod model;
 mod printing;
+mod state;
+mod values;
 mod vocabulary;
 
 pub use action::{GroundAction, Plan};
