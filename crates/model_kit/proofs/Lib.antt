@@ -5,3 +5,5 @@ pub mod Ands
 pub mod Distinct
 pub mod WordFacts
 pub mod ModelFacts
+pub mod TypeLemmas
+pub mod FormLemmas
