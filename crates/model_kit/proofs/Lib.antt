@@ -1,5 +1,11 @@
 pub mod Fits
 pub mod Forms
+pub mod Loops
+pub mod StateLemmas
+pub mod TableLemmas
+pub mod ActionLemmas
+pub mod MissingLemmas
+pub mod StepLemmas
 pub mod Alike
 pub mod Ands
 pub mod Distinct

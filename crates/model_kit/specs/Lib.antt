@@ -14,3 +14,4 @@ pub mod Explanations
 pub mod Pairs
 pub mod Laws
 pub mod Judgement
+pub mod Judging

@@ -1,9 +1,10 @@
-ghost use Rattle.std.specs.Prelude.{◌≡◌, ◌^◌, ◌<◌, length, All, IfOk};
-ghost use Rattle.model_kit.specs.Vocabulary.{IsGroundAction};
+ghost use Rattle.std.specs.Prelude.{◌≡◌, ◌^◌, ◌<◌, length, All, IsTrue, IfOk, IfSome, IfNone};
+ghost use Rattle.model_kit.specs.Vocabulary.{is_ground_atom, is_ground_action, IsGroundAction};
 ghost use Rattle.model_kit.specs.Places.{meaning};
-ghost use Rattle.model_kit.specs.Judgement.{Judges};
+ghost use Rattle.model_kit.specs.Judgement.{Judges, IsFirstPrinted};
+ghost use Rattle.model_kit.specs.Judging.{StateOf, IsTableOf, IsMissing, earlier_of, Steps};
 
-use crate::state::{initial_state, instances, successor};
+use crate::state::{change, initial_state, instances};
 use crate::values::{FunctionTerm, price, value_table};
 use crate::{GroundAction, GroundAtom, Model, Plan, Vocabulary, print_atom};
 use mre_base::{List, NoMemory, Text};
@@ -38,7 +39,7 @@ pub fn judge_names(alloc: Global, model: &Model, plan: &Plan) -> Result<NamedJud
         let step = place as u32 + 1;
         match take_step(alloc, model, &values, &mut state, action)? {
             Step::Taken { cost: more } => cost += u64::from(more),
-            Step::Lacks { atom } => return Ok(NamedJudgement::Fails { step, atom }),
+            Step::Unmet { atom } => return Ok(NamedJudgement::Fails { step, atom }),
             Step::Unpriced => return Ok(NamedJudgement::NoCost { step }),
         }
     }
@@ -48,10 +49,11 @@ pub fn judge_names(alloc: Global, model: &Model, plan: &Plan) -> Result<NamedJud
     }
 }
 
+// What became of one step.
 #[derive(Drop)]
 enum Step {
     Taken { cost: u32 },
-    Lacks { atom: GroundAtom },
+    Unmet { atom: GroundAtom },
     Unpriced,
 }
 
@@ -62,15 +64,19 @@ fn take_step(
     values: &BTreeMap<FunctionTerm, u32>,
     state: &mut BTreeSet<GroundAtom>,
     action: &GroundAction,
-) -> Result<Step, NoMemory> {
+) -> Result<Step, NoMemory>
+    requires fits { IsTrue (is_ground_action model.now.words action.now) }
+    requires table { IsTableOf model.now.values values.now }
+    ensures ok { IfOk result (Steps model.now.words (meaning model.now) action.now state.old state.new) }
+{
     let schema = model.schemas.item(action.schema as usize);
     let needed = instances(alloc, &schema.pre, &action.objects)?;
     if let Some(atom) = first_missing(alloc, &model.words, state, &needed)? {
-        return Ok(Step::Lacks { atom });
+        return Ok(Step::Unmet { atom });
     }
     match price(alloc, model, values, action)? {
         Some(cost) => {
-            successor(alloc, state, schema, &action.objects)?;
+            change(alloc, state, schema, &action.objects)?;
             Ok(Step::Taken { cost })
         }
         None => Ok(Step::Unpriced),
@@ -83,7 +89,11 @@ fn first_missing(
     words: &Vocabulary,
     state: &BTreeSet<GroundAtom>,
     atoms: &List<GroundAtom>,
-) -> Result<Option<GroundAtom>, NoMemory> {
+) -> Result<Option<GroundAtom>, NoMemory>
+    requires { All (λ atom. IsTrue (is_ground_atom words.now atom)) atoms.now }
+    ensures none { IfOk result (λ found. IfNone found (All (StateOf state.now) atoms.now)) }
+    ensures first { IfOk result (λ found. IfSome found (IsFirstPrinted words.now (IsMissing atoms.now state.now))) }
+{
     let mut best: Option<(usize, Text)> = None;
     for place in 0..atoms.len() {
         let atom = atoms.item(place);
@@ -91,16 +101,25 @@ fn first_missing(
             continue;
         }
         let text = print_atom(alloc, words, atom)?;
-        let is_first = match &best {
-            Some((_, least)) => text.bytes() < least.bytes(),
-            None => true,
-        };
-        if is_first {
-            best = Some((place, text));
-        }
+        best = earlier(best, place, text);
     }
-    match best {
-        Some((place, _)) => Ok(Some(atoms.item(place).copy(alloc)?)),
-        None => Ok(None),
+    let Some((place, _)) = best else {
+        return Ok(None);
+    };
+    let atom = atoms.item(place).copy(alloc)?;
+    Ok(Some(atom))
+}
+
+// Of a place with its text, if there is one yet, and a further place with its text, the one whose text comes first.
+fn earlier(best: Option<(usize, Text)>, place: usize, text: Text) -> Option<(usize, Text)>
+    ensures { result ≡ earlier_of best place text }
+{
+    let Some((first, least)) = best else {
+        return Some((place, text));
+    };
+    if text.as_str() < least.as_str() {
+        Some((place, text))
+    } else {
+        Some((first, least))
     }
 }

@@ -1,9 +1,13 @@
-ghost use Rattle.std.specs.Prelude.{◌≡◌, ◌==◌};
+ghost use Rattle.std.specs.Prelude.{◌≡◌, ◌==◌, IsTrue, IfOk};
 ghost use Rattle.std.specs.Cmp.{partial_order_from_own_ties};
 ghost use Rattle.std.specs.Cmp.Rules.{comparing};
 ghost use Rattle.std.specs.Cmp.Lexicographic.{pointwise, slice_cmp};
 ghost use Rattle.std.specs.Ordering.{nat_cmp, on, then_cmp, eq_of_both, as_partial_cmp};
 ghost use Rattle.std.proofs.Common.{rules};
+ghost use Rattle.model_kit.specs.Vocabulary.{is_ground_action};
+ghost use Rattle.model_kit.specs.Places.{meaning};
+ghost use Rattle.model_kit.specs.Runs.{cost_of};
+ghost use Rattle.model_kit.specs.Judging.{IsTableOf};
 
 use crate::state::arguments;
 use crate::{CostExpr, GroundAction, Model};
@@ -63,7 +67,9 @@ impl PartialOrd for FunctionTerm {
 pub(crate) fn value_table(
     alloc: Global,
     values: &List<(u32, List<u32>, u32)>,
-) -> Result<BTreeMap<FunctionTerm, u32>, NoMemory> {
+) -> Result<BTreeMap<FunctionTerm, u32>, NoMemory>
+    ensures ok { IfOk result (IsTableOf values.now) }
+{
     let mut table = BTreeMap::new(alloc);
     for place in (0..values.len()).rev() {
         let (function, objects, number) = values.item(place);
@@ -82,7 +88,11 @@ pub(crate) fn price(
     model: &Model,
     values: &BTreeMap<FunctionTerm, u32>,
     action: &GroundAction,
-) -> Result<Option<u32>, NoMemory> {
+) -> Result<Option<u32>, NoMemory>
+    requires fits { IsTrue (is_ground_action model.now.words action.now) }
+    requires table { IsTableOf model.now.values values.now }
+    ensures ok { IfOk result (λ cost. cost ≡ cost_of (meaning model.now) action.now) }
+{
     if model.unknown.as_slice().contains(&action.schema) {
         return Ok(None);
     }

@@ -1,0 +1,24 @@
+-- One more item in a loop over a list.
+use Rattle.std.proofs.Common.{◌≡◌, ℕ, ◌+◌, ◌<◌, Bool, ◌||◌, Some, List, [], ◌∷◌, ◌++◌, length, get_or, take, drop, map, refl, sym, ap, ◌∙◌, subst}
+use Rattle.std.specs.Prelude.{slice_get, All, true}
+use Rattle.std.specs.List.{list_any}
+use Rattle.std.proofs.lemmas.Option.{slice_get_within, get_or_from_slice_get}
+use Rattle.std.proofs.lemmas.List.{take_more, map-append, drop_more}
+use Rattle.std.proofs.lemmas.List.Folds.{list_any_more}
+
+module _ {X : Type 0} (xs : List X) (i : ℕ) (x : X) (at : slice_get xs i ≡ Some x) where
+  pub take_item : take (i + 1) xs ≡ take i xs ++ x ∷ []
+  take_item = take_more xs i x (slice_get_within xs i x at) ∙ ap (λ y. take i xs ++ y ∷ []) (get_or_from_slice_get xs i x x at)
+
+  pub drop_item : drop i xs ≡ x ∷ drop (i + 1) xs
+  drop_item = drop_more xs i x (slice_get_within xs i x at) ∙ ap (λ y. y ∷ drop (i + 1) xs) (get_or_from_slice_get xs i x x at)
+
+  pub map_item : {Y : Type 0} (f : X → Y) (old new : List Y) (y : Y) → old ≡ map f (take i xs) → new ≡ old ++ y ∷ [] → y ≡ f x → new ≡ map f (take (i + 1) xs)
+  map_item f old new y before now is =
+      now ∙ (λ j. before j ++ is j ∷ []) ∙ sym (map-append f (take i xs) (x ∷ [])) ∙ ap (map f) (sym take_item)
+
+  pub list_any_item : (p : X → Bool) → list_any p (take (i + 1) xs) ≡ (list_any p (take i xs) || p x)
+  list_any_item p = list_any_more p xs i x (slice_get_within xs i x at) ∙ ap (λ y. list_any p (take i xs) || p y) (get_or_from_slice_get xs i x x at)
+
+  pub All_item : (P : X → Type 0) → All P xs → P x
+  All_item P all = subst P (get_or_from_slice_get xs i x x at) (all i x (slice_get_within xs i x at))
