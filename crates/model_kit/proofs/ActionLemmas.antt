@@ -1,14 +1,15 @@
 -- A ground action in a model: its schema is there, its terms have objects, its atoms fit, and what it costs.
 use Rattle.std.proofs.Common.{◌≡◌, ℕ, ◌<◌, ◌&&◌, zero, suc, Bool, true, false, cond, List, [], ◌∷◌, length, get_or, map, Option, Some, None, refl, sym, ap, subst, ◌∙◌, arith}
-use Rattle.std.specs.Prelude.{◌==◌, not, nat_lt, IsTrue, All, slice_get, Contains}
+use Rattle.std.specs.Prelude.{◌==◌, not, nat_lt, IsTrue, All, slice_get, IfSome, IfNone}
 use Rattle.std.specs.List.{list_any}
 use Rattle.std.specs.Option.{option_map_or}
 use Rattle.std.specs.Cmp.{first_so, second_so}
 use Rattle.std.proofs.lemmas.Bool.{true≢false, and_from, lt-ltb, not_from_true, not_from_false, and_right, cond-true, cond-false}
 use Rattle.std.proofs.lemmas.Option.{slice_get_within, get_or_from_slice_get, slice_get-get_or}
-use Rattle.std.proofs.lemmas.List.Elements.{All-contains}
+use Rattle.std.proofs.lemmas.List.Elements.{All-map}
 use Rattle.model_kit.specs.declared.vocabulary.Vocabulary.{Vocabulary}
 use Rattle.model_kit.specs.declared.vocabulary.Signature.{Signature}
+use Rattle.model_kit.specs.declared.atom.GroundAtom.{GroundAtom}
 use Rattle.model_kit.specs.declared.atom.SchemaAtom.{SchemaAtom}
 use Rattle.model_kit.specs.declared.atom.Term.{Term}
 use Rattle.model_kit.specs.declared.atom.Term.TheVariants.{Param, Object}
@@ -102,3 +103,22 @@ module _ (model : Model) (action : GroundAction) (fits : IsGroundAction model.wo
 -- what the test of the unknown actions says
 pub unknown_test : (now unknown : List ℕ) (schema : ℕ) (answer b : Bool) → now ≡ unknown → answer ≡ list_any (λ u. u == schema) now → answer ≡ b → list_any (λ u. u == schema) unknown ≡ b
 unknown_test now unknown schema answer b same is told = ap (list_any (λ u. u == schema)) (sym same) ∙ sym is ∙ told
+
+module _ (model : Model) (action : GroundAction) (fits : IsGroundAction model.words action) where
+  -- each atom of a list of the schema has its objects
+  pub list_placed : (fs : List SchemaAtom) → All (λ f. IsTrue (is_schema_atom model.words (signature_of model action fits).0.params f)) fs → All (λ f. ArePlaced action.objects f.args) fs
+  list_placed fs fit k d lt = atom_placed model action fits (get_or fs k d) (fit k d lt)
+
+  -- with the objects put in they are ground atoms
+  pub list_ground : (fs : List SchemaAtom) → All (λ f. IsTrue (is_schema_atom model.words (signature_of model action fits).0.params f)) fs
+      → (atoms : List GroundAtom) → atoms ≡ map (instance action.objects) fs → All (λ atom. IsTrue (is_ground_atom model.words atom)) atoms
+  list_ground fs fit atoms is =
+      subst (All (λ atom. IsTrue (is_ground_atom model.words atom))) (sym is)
+      (All-map (λ atom. IsTrue (is_ground_atom model.words atom)) (instance action.objects) fs (λ k d lt. instance_ground model action fits (get_or fs k d) (fit k d lt)))
+
+-- the clauses on what may be there
+pub some_holds : {X : Type 0} (P : X → Type 0) (o : Option X) (x : X) → o ≡ Some x → IfSome o P → P x
+some_holds P o x is holds = subst (λ p. IfSome p P) is holds
+
+pub none_holds : {X : Type 0} (P : Type 0) (o : Option X) → o ≡ None → IfNone o P → P
+none_holds P o is holds = subst (λ p. IfNone p P) is holds

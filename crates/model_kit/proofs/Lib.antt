@@ -6,6 +6,8 @@ pub mod TableLemmas
 pub mod ActionLemmas
 pub mod MissingLemmas
 pub mod StepLemmas
+pub mod RunLemmas
+pub mod JudgeLemmas
 pub mod Alike
 pub mod Ands
 pub mod Distinct
