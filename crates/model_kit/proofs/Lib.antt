@@ -8,6 +8,7 @@ pub mod MissingLemmas
 pub mod StepLemmas
 pub mod RunLemmas
 pub mod JudgeLemmas
+pub mod JudgingLemmas
 pub mod Alike
 pub mod Ands
 pub mod Distinct
