@@ -9,6 +9,8 @@ pub mod StepLemmas
 pub mod RunLemmas
 pub mod JudgeLemmas
 pub mod JudgingLemmas
+pub mod OrderLemmas
+pub mod FirstLemmas
 pub mod Alike
 pub mod Ands
 pub mod Distinct

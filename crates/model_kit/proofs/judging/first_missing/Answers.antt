@@ -1,4 +1,4 @@
-use Rattle.std.proofs.Common.{sym, ap, subst, ◌∙◌, ℕ, ◌+◌, ◌≤◌, List, length, arith, Some, None}
+use Rattle.std.proofs.Common.{sym, ap, subst, ◌∙◌, ℕ, ◌+◌, List, arith, Some, None}
 use Rattle.std.specs.Prelude.{IsTrue}
 use Rattle.model_kit.specs.Vocabulary.{is_ground_atom}
 use Rattle.model_kit.proofs.Loops.{All_item}

@@ -1,11 +1,9 @@
-use Rattle.std.proofs.Common.{◌≡◌, ◌+◌, ◌<◌, ◌^◌, sym, ap, ◌∙◌, refl, subst, arith, Some, None}
+use Rattle.std.proofs.Common.{◌+◌, ◌<◌, ◌^◌, sym, refl, subst, arith}
 use Rattle.std.specs.Prelude.{All}
-use Rattle.model_kit.specs.declared.judging.NamedJudgement.{NamedJudgement}
 use Rattle.model_kit.specs.declared.judging.NamedJudgement.TheVariants.{Valid, Fails, NoCost, GoalMissing}
 use Rattle.model_kit.specs.declared.judging.Step.TheVariants.{Taken, Unmet, Unpriced}
 use Rattle.model_kit.specs.Places.{meaning}
-use Rattle.model_kit.specs.Vocabulary.{IsGroundAction}
-use Rattle.model_kit.specs.Judgement.{IsFirstPrinted, Judges}
+use Rattle.model_kit.specs.Judgement.{IsFirstPrinted}
 use Rattle.model_kit.specs.Judging.{StateOf, IsMissing, Steps}
 use Rattle.model_kit.proofs.ActionLemmas.{some_holds, none_holds}
 use Rattle.model_kit.proofs.ModelFacts.{facts_of_model}

@@ -1,5 +1,5 @@
 use Rattle.std.proofs.Common.{◌≡◌, sym, ap, ◌∙◌, Some, None}
-use Rattle.std.specs.Prelude.{All, is_some, IsSome, IsNone}
+use Rattle.std.specs.Prelude.{All, is_some}
 use Rattle.model_kit.specs.Places.{meaning}
 use Rattle.model_kit.specs.Runs.{cost_of}
 use Rattle.model_kit.specs.Judgement.{IsFirstPrinted}
