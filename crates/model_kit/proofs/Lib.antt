@@ -11,6 +11,8 @@ pub mod JudgeLemmas
 pub mod JudgingLemmas
 pub mod OrderLemmas
 pub mod FirstLemmas
+pub mod PlaceLemmas
+pub mod WayLemmas
 pub mod Alike
 pub mod Ands
 pub mod Distinct
