@@ -13,6 +13,8 @@ pub mod OrderLemmas
 pub mod FirstLemmas
 pub mod PlaceLemmas
 pub mod WayLemmas
+pub mod ListLemmas
+pub mod FiniteLemmas
 pub mod Alike
 pub mod Ands
 pub mod Distinct
