@@ -1,4 +1,8 @@
+use Rattle.model_kit.proofs.LawLemmas.{mme_law}
+use Rattle.model_kit.proofs.PairLemmas.{plan_ground}
 use Rattle.model_kit.proofs.laws.law_mme.Goals as goal
 
 pub returns : goal.returns
-returns c = ?
+returns c = λ words joint_planner joint_user places paired ground posed.
+    mme_law words joint_planner joint_user places c.args.weights.now c.args.plan.now.steps posed
+    (plan_ground c.args.planner.now.words c.args.user.now.words words paired.joint c.args.plan.now.steps ground)
