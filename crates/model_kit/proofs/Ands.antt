@@ -14,8 +14,11 @@ and5 a b c d f e = let l = and_parts (a && b && c && d) f e in let k = and4 a b 
 pub and6 : (a b c d f g : Bool) → (a && b && c && d && f && g) ≡ true → (a ≡ true) × (b ≡ true) × (c ≡ true) × (d ≡ true) × (f ≡ true) × (g ≡ true)
 and6 a b c d f g e = let l = and_parts (a && b && c && d && f) g e in let k = and5 a b c d f l.0 in (k.0, k.1, k.2, k.3, k.4, l.1)
 
+pub all3 : (a b c : Bool) → a ≡ true → b ≡ true → c ≡ true → (a && b && c) ≡ true
+all3 a b c p q r = and_from (a && b) c (and_from a b p q) r
+
 pub all4 : (a b c d : Bool) → a ≡ true → b ≡ true → c ≡ true → d ≡ true → (a && b && c && d) ≡ true
-all4 a b c d p q r s = and_from (a && b && c) d (and_from (a && b) c (and_from a b p q) r) s
+all4 a b c d p q r s = and_from (a && b && c) d (all3 a b c p q r) s
 
 pub all5 : (a b c d f : Bool) → a ≡ true → b ≡ true → c ≡ true → d ≡ true → f ≡ true → (a && b && c && d && f) ≡ true
 all5 a b c d f p q r s t = and_from (a && b && c && d) f (all4 a b c d p q r s) t

@@ -17,7 +17,7 @@ use Rattle.model_kit.specs.Vocabulary.{is_ground_action, IsGroundAction}
 use Rattle.model_kit.specs.Places.{Place, Init, Goal, Pre, Add, Del, Meaning}
 use Rattle.model_kit.specs.Runs.{State, is_on, Has, instance, cost_of, Needs, Adds, Deletes, Applies, After, Leads, Initial, IsGoal, IsValid, cost, IsCheapest}
 use Rattle.model_kit.proofs.Alike.{same_atom-decides}
-use Rattle.model_kit.proofs.WordFacts.{all_decides}
+use Rattle.model_kit.proofs.Distinct.{all_decides}
 use Rattle.model_kit.proofs.StepLemmas.{map_contains}
 use Rattle.model_kit.proofs.RunLemmas.{Alike}
 use Rattle.model_kit.proofs.WayLemmas.{Reaches, decided_way}

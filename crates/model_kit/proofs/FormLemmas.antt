@@ -20,7 +20,7 @@ use Rattle.model_kit.specs.Names.{is_word_byte, is_capital, is_first_byte, is_na
 use Rattle.model_kit.specs.Types.{is_of_type}
 use Rattle.model_kit.specs.Vocabulary.{is_object_of, is_term_of, do_fit, fits_signature, is_ground_atom, is_schema_atom}
 use Rattle.model_kit.specs.Printed.{name_of, object_name, term_form, args_form, form, atom_form, schema_atom_form}
-use Rattle.model_kit.proofs.WordFacts.{AreNamed, facts_of_words}
+use Rattle.model_kit.proofs.WordFacts.{AreNamed, typed_named, signatures_named, facts_of_words}
 use Rattle.model_kit.proofs.Fits.{entry_listed, signature_listed, object_listed, each_arg_fits}
 
 -- neither a blank nor a closing parenthesis
@@ -173,15 +173,24 @@ module _ {X : Type 0} (print : X → List ℕ) (ok : X → Type 0) (plain : (x :
           (args_plain xs each) (args_plain ys other) e in
       (entry_name-injective (λ s. s.name) signatures named m n lt_m lt_n parts.0, args_apart xs ys each other parts.1)
 
+objects_named : (words : Vocabulary) → AreNamed (λ e. e.0) words.objects
+objects_named words = typed_named words.types words.objects (facts_of_words words).objects_kept
+
+predicates_named : (words : Vocabulary) → AreNamed (λ s. s.name) words.predicates
+predicates_named words = signatures_named words.types words.predicates (facts_of_words words).predicates_kept
+
+functions_named : (words : Vocabulary) → AreNamed (λ s. s.name) words.functions
+functions_named words = signatures_named words.types words.functions (facts_of_words words).functions_kept
+
 module _ (words : Vocabulary) where
   abbrev IsListed : ℕ → Type 0
   IsListed object = object < length words.objects
 
   object_plain : (object : ℕ) → IsListed object → are_plain (object_name words object) ≡ true
-  object_plain object listed = name_plain (object_name words object) (entry_name_good (λ e. e.0) words.objects (facts_of_words words).objects_kept.named object listed)
+  object_plain object listed = name_plain (object_name words object) (entry_name_good (λ e. e.0) words.objects (objects_named words) object listed)
 
   object_apart : (a b : ℕ) → IsListed a → IsListed b → object_name words a ≡ object_name words b → a ≡ b
-  object_apart a b listed other = entry_name-injective (λ e. e.0) words.objects (facts_of_words words).objects_kept.named a b listed other
+  object_apart a b listed other = entry_name-injective (λ e. e.0) words.objects (objects_named words) a b listed other
 
   objects_listed : (signatures : List Signature) (n : ℕ) (objects : List ℕ) → fits_signature (is_object_of words) signatures n objects ≡ true → (k d : ℕ) → k < length objects → IsListed (get_or objects k d)
   objects_listed signatures n objects fit k d lt = let at = each_arg_fits (is_object_of words) signatures n objects fit k d lt in object_listed words (get_or objects k d) at.0 at.1
@@ -189,7 +198,7 @@ module _ (words : Vocabulary) where
   -- two ground atoms with one printed form are one
   pub atom_form-injective : (a b : GroundAtom) → IsTrue (is_ground_atom words a) → IsTrue (is_ground_atom words b) → atom_form words a ≡ atom_form words b → a ≡ b
   atom_form-injective a b fit other e =
-      let parts = read_back (object_name words) IsListed object_plain object_apart words.predicates (facts_of_words words).predicates_kept.named a.predicate b.predicate
+      let parts = read_back (object_name words) IsListed object_plain object_apart words.predicates (predicates_named words) a.predicate b.predicate
           (signature_listed (is_object_of words) words.predicates a.predicate a.objects fit) (signature_listed (is_object_of words) words.predicates b.predicate b.objects other)
           a.objects b.objects (objects_listed words.predicates a.predicate a.objects fit) (objects_listed words.predicates b.predicate b.objects other) e in
       λ i. record { predicate = parts.0 i; objects = parts.1 i }
@@ -198,7 +207,7 @@ module _ (words : Vocabulary) where
   pub function_form-injective : (f g : ℕ) (xs ys : List ℕ) → fits_signature (is_object_of words) words.functions f xs ≡ true → fits_signature (is_object_of words) words.functions g ys ≡ true
       → form (name_of words.functions f) (map (object_name words) xs) ≡ form (name_of words.functions g) (map (object_name words) ys) → (f ≡ g) × (xs ≡ ys)
   function_form-injective f g xs ys fit other e =
-      read_back (object_name words) IsListed object_plain object_apart words.functions (facts_of_words words).functions_kept.named f g
+      read_back (object_name words) IsListed object_plain object_apart words.functions (functions_named words) f g
       (signature_listed (is_object_of words) words.functions f xs fit) (signature_listed (is_object_of words) words.functions g ys other)
       xs ys (objects_listed words.functions f xs fit) (objects_listed words.functions g ys other) e
 
@@ -233,7 +242,7 @@ module _ (words : Vocabulary) where
   term_plain (Object object) listed = object_plain words object listed
 
   object_named : (object : ℕ) → object < length words.objects → is_name (object_name words object) ≡ true
-  object_named object listed = entry_name_good (λ e. e.0) words.objects (facts_of_words words).objects_kept.named object listed
+  object_named object listed = entry_name_good (λ e. e.0) words.objects (objects_named words) object listed
 
   term_apart : (s t : Term) → IsPrintable s → IsPrintable t → term_form words s ≡ term_form words t → s ≡ t
   term_apart (Param i) (Param j) small other e =
@@ -257,7 +266,7 @@ module _ (words : Vocabulary) where
   pub schema_atom_form-injective : (params : List ℕ) → length params < 2 ^ 63 → (f g : SchemaAtom) → IsTrue (is_schema_atom words params f) → IsTrue (is_schema_atom words params g)
       → schema_atom_form words f ≡ schema_atom_form words g → f ≡ g
   schema_atom_form-injective params few f g fit other e =
-      let parts = read_back (term_form words) IsPrintable term_plain term_apart words.predicates (facts_of_words words).predicates_kept.named f.predicate g.predicate
+      let parts = read_back (term_form words) IsPrintable term_plain term_apart words.predicates (predicates_named words) f.predicate g.predicate
           (signature_listed (is_term_of words params) words.predicates f.predicate f.args fit) (signature_listed (is_term_of words params) words.predicates g.predicate g.args other)
           f.args g.args (terms_printable params few words.predicates f.predicate f.args fit) (terms_printable params few words.predicates g.predicate g.args other) e in
       λ i. record { predicate = parts.0 i; args = parts.1 i }

@@ -12,30 +12,13 @@ use Rattle.model_kit.specs.declared.atom.GroundAtom.{GroundAtom}
 use Rattle.model_kit.specs.declared.atom.SchemaAtom.{SchemaAtom}
 use Rattle.model_kit.specs.declared.model.Model.{Model}
 use Rattle.model_kit.specs.declared.model.Schema.{Schema}
-use Rattle.model_kit.specs.Names.{are_distinct}
+use Rattle.model_kit.specs.Names.{are_entries}
 use Rattle.model_kit.specs.Same.{same_numbers, same_atom, same_schema_atom}
 use Rattle.model_kit.specs.Vocabulary.{is_object_of, fits_signature, is_ground_atom, is_schema_atom}
-use Rattle.model_kit.specs.Features.{are_ground_atoms, are_schema_atoms, is_cost, is_schema, are_schemas, are_values, are_unknown, is_model}
+use Rattle.model_kit.specs.Features.{are_ground_atoms, are_schema_atoms, is_cost, is_schema, are_schemas, is_value, same_key, is_action, is_model}
 use Rattle.model_kit.proofs.Ands.{and4, and5, all4, all5}
 use Rattle.model_kit.proofs.Alike.{same_numbers-decides, same_atom-decides, same_schema_atom-decides}
-use Rattle.model_kit.proofs.Distinct.{apart_from_are_distinct, are_distinct_from_apart}
-use Rattle.model_kit.proofs.WordFacts.{all_decides}
-
--- each entry passes the test, and no two are the same
-pub record ListFacts {X : Type 0} (fits : X → Bool) (R : X → X → Type 0) (xs : List X) : Type 0 where
-  pub fit : All (λ x. IsTrue (fits x)) xs
-  pub apart : AllPairs (λ x y. ¬ R x y) xs
-
-list_facts : {X : Type 0} (fits : X → Bool) (same : X → X → Bool) (R : X → X → Type 0) → ((x y : X) → Decides (same x y) (R x y)) → (xs : List X)
-    → (list_all fits xs && are_distinct same xs) ≡ true → ListFacts fits R xs
-list_facts fits same R decides xs e =
-    let parts = and_parts (list_all fits xs) (are_distinct same xs) e in
-    record { fit = (all_decides fits (λ x. IsTrue (fits x)) (λ x. (λ h. h, λ h. h)) xs).0 parts.0; apart = apart_from_are_distinct same R decides xs parts.1 }
-
-list_sound : {X : Type 0} (fits : X → Bool) (same : X → X → Bool) (R : X → X → Type 0) → ((x y : X) → Decides (same x y) (R x y)) → (xs : List X)
-    → ListFacts fits R xs → (list_all fits xs && are_distinct same xs) ≡ true
-list_sound fits same R decides xs facts =
-    and_from (list_all fits xs) (are_distinct same xs) ((all_decides fits (λ x. IsTrue (fits x)) (λ x. (λ h. h, λ h. h)) xs).1 facts.fit) (are_distinct_from_apart same R decides xs facts.apart)
+use Rattle.model_kit.proofs.Distinct.{ListFacts, list_facts, list_sound}
 
 -- what a schema keeps, where its action has these parameters
 pub record SchemaFacts (words : Vocabulary) (params : List ℕ) (schema : Schema) : Type 0 where
@@ -96,11 +79,8 @@ pub record ModelFacts (words : Vocabulary) (init goal : List GroundAtom) (schema
   pub goal_kept : ListFacts (is_ground_atom words) (λ a b. a ≡ b) goal
   pub one_each : length schemas ≡ length words.actions
   pub schemas_kept : (n : ℕ) (schema : Schema) (action : Signature) → slice_get schemas n ≡ Some schema → slice_get words.actions n ≡ Some action → SchemaFacts words action.params schema
-  pub values_kept : ListFacts (λ v. fits_signature (is_object_of words) words.functions v.0 v.1) (λ v w. (v.0 ≡ w.0) × (v.1 ≡ w.1)) values
-  pub unknown_kept : ListFacts (λ n. nat_lt n (length words.actions)) (λ a b. a ≡ b) unknown
-
-abbrev same_key : ℕ × List ℕ × ℕ → ℕ × List ℕ × ℕ → Bool
-same_key v w = (v.0 == w.0) && same_numbers v.1 w.1
+  pub values_kept : ListFacts (is_value words) (λ v w. (v.0 ≡ w.0) × (v.1 ≡ w.1)) values
+  pub unknown_kept : ListFacts (is_action words) (λ a b. a ≡ b) unknown
 
 same_key-decides : (v w : ℕ × List ℕ × ℕ) → Decides (same_key v w) ((v.0 ≡ w.0) × (v.1 ≡ w.1))
 same_key-decides v w = Decides-and (v.0 == w.0) (same_numbers v.1 w.1) (Decides-eqb v.0 w.0) (same_numbers-decides v.1 w.1)
@@ -108,24 +88,24 @@ same_key-decides v w = Decides-and (v.0 == w.0) (same_numbers v.1 w.1) (Decides-
 module _ (words : Vocabulary) (init goal : List GroundAtom) (schemas : List Schema) (values : List (ℕ × List ℕ × ℕ)) (unknown : List ℕ) where
   pub model_facts : is_model words init goal schemas values unknown ≡ true → ModelFacts words init goal schemas values unknown
   model_facts e =
-      let parts = and5 (are_ground_atoms words init) (are_ground_atoms words goal) (are_schemas words schemas words.actions) (are_values words values) (are_unknown words unknown) e in record {
+      let parts = and5 (are_ground_atoms words init) (are_ground_atoms words goal) (are_schemas words schemas words.actions) (are_entries (is_value words) same_key values) (are_entries (is_action words) ◌==◌ unknown) e in record {
         init_kept = list_facts (is_ground_atom words) same_atom (λ a b. a ≡ b) same_atom-decides init parts.0;
         goal_kept = list_facts (is_ground_atom words) same_atom (λ a b. a ≡ b) same_atom-decides goal parts.1;
         one_each = schemas_count words schemas words.actions parts.2;
         schemas_kept = λ n schema action s_is a_is. schema_facts words schema action (schema_at words schemas words.actions parts.2 n schema action s_is a_is);
-        values_kept = list_facts (λ v. fits_signature (is_object_of words) words.functions v.0 v.1) same_key (λ v w. (v.0 ≡ w.0) × (v.1 ≡ w.1)) same_key-decides values parts.3;
-        unknown_kept = list_facts (λ n. nat_lt n (length words.actions)) ◌==◌ (λ a b. a ≡ b) Decides-eqb unknown parts.4;
+        values_kept = list_facts (is_value words) same_key (λ v w. (v.0 ≡ w.0) × (v.1 ≡ w.1)) same_key-decides values parts.3;
+        unknown_kept = list_facts (is_action words) ◌==◌ (λ a b. a ≡ b) Decides-eqb unknown parts.4;
       }
 
   -- what must be shown of new lists to make a model of them
   pub model_sound : ModelFacts words init goal schemas values unknown → is_model words init goal schemas values unknown ≡ true
   model_sound facts =
-      all5 (are_ground_atoms words init) (are_ground_atoms words goal) (are_schemas words schemas words.actions) (are_values words values) (are_unknown words unknown)
+      all5 (are_ground_atoms words init) (are_ground_atoms words goal) (are_schemas words schemas words.actions) (are_entries (is_value words) same_key values) (are_entries (is_action words) ◌==◌ unknown)
       (list_sound (is_ground_atom words) same_atom (λ a b. a ≡ b) same_atom-decides init facts.init_kept)
       (list_sound (is_ground_atom words) same_atom (λ a b. a ≡ b) same_atom-decides goal facts.goal_kept)
       (schemas_from words schemas words.actions facts.one_each (λ n schema action s_is a_is. schema_sound words schema action (facts.schemas_kept n schema action s_is a_is)))
-      (list_sound (λ v. fits_signature (is_object_of words) words.functions v.0 v.1) same_key (λ v w. (v.0 ≡ w.0) × (v.1 ≡ w.1)) same_key-decides values facts.values_kept)
-      (list_sound (λ n. nat_lt n (length words.actions)) ◌==◌ (λ a b. a ≡ b) Decides-eqb unknown facts.unknown_kept)
+      (list_sound (is_value words) same_key (λ v w. (v.0 ≡ w.0) × (v.1 ≡ w.1)) same_key-decides values facts.values_kept)
+      (list_sound (is_action words) ◌==◌ (λ a b. a ≡ b) Decides-eqb unknown facts.unknown_kept)
 
 -- the facts of a model
 pub facts_of_model : (model : Model) → ModelFacts model.words model.init model.goal model.schemas model.values model.unknown

@@ -15,7 +15,8 @@ use Rattle.model_kit.specs.declared.atom.Term.TheVariants.{Param, Object}
 use Rattle.model_kit.specs.Types.{parent, ancestor, is_of_type}
 use Rattle.model_kit.specs.Vocabulary.{is_object_of, is_term_of, do_fit, fits_signature}
 use Rattle.model_kit.specs.Runs.{object_of}
-use Rattle.model_kit.proofs.WordFacts.{TypeFacts, facts_of_words}
+use Rattle.model_kit.proofs.Loops.{All_item}
+use Rattle.model_kit.proofs.WordFacts.{TypeFacts, type_listed, facts_of_words}
 
 -- a test passes at a number of a range
 some_from : (p : ℕ → Bool) (a n : ℕ) → list_any p (range_with_len a n) ≡ true → (k : ℕ) × (k < a + n) × (p k ≡ true)
@@ -99,12 +100,8 @@ module _ (words : Vocabulary) (params objects : List ℕ) (given : do_fit (is_ob
       let entry = entry_passes (λ e. is_of_type words.types e.1 declared.0) words.objects (slice_index objects i) own in
       let facts = facts_of_words words in
       entry_from (λ e. is_of_type words.types e.1 type) words.objects (slice_index objects i) entry.0 entry.1
-      (is_of_type-trans words.types facts.types_kept entry.0.1 declared.0 type (type_listed words.objects (slice_index objects i) entry.0 entry.1 facts.objects_kept.typed) entry.2 declared.2)
-    where
-      type_listed : (xs : List (List ℕ × ℕ)) (n : ℕ) (e : List ℕ × ℕ) → slice_get xs n ≡ Some e → ((k : ℕ) (d : List ℕ × ℕ) → k < length xs → (get_or xs k d).1 < length words.types) → e.1 < length words.types
-      type_listed [] n e at typed = absurd (cc)
-      type_listed (x ∷ xs) zero e at typed = let same : x ≡ e = cc in subst (λ (y : List ℕ × ℕ). y.1 < length words.types) same (typed zero x (omega arith))
-      type_listed (x ∷ xs) (suc n) e at typed = type_listed xs n e at (λ k d lt. typed (suc k) d (omega arith))
+      (is_of_type-trans words.types facts.types_kept entry.0.1 declared.0 type
+          (All_item words.objects (slice_index objects i) entry.0 entry.1 (λ e. e.1 < length words.types) (type_listed words.types words.objects facts.objects_kept)) entry.2 declared.2)
 
   pub args_fit : (args : List Term) (types : List ℕ) → do_fit (is_term_of words params) args types ≡ true → do_fit (is_object_of words) (map (object_of objects) args) types ≡ true
   args_fit [] [] fit = refl

@@ -1,6 +1,5 @@
 -- The facts that every model has: what it lists fits its vocabulary, and no feature is listed twice.
 use Rattle.std.specs.Prelude.{ℕ, ◌==◌, ◌&&◌, nat_lt, Bool, true, false, List, [], ◌∷◌, length}
-use Rattle.std.specs.List.{list_all}
 use Rattle.model_kit.specs.declared.vocabulary.Vocabulary.{Vocabulary}
 use Rattle.model_kit.specs.declared.vocabulary.Signature.{Signature}
 use Rattle.model_kit.specs.declared.atom.GroundAtom.{GroundAtom}
@@ -8,17 +7,17 @@ use Rattle.model_kit.specs.declared.atom.SchemaAtom.{SchemaAtom}
 use Rattle.model_kit.specs.declared.model.Schema.{Schema}
 use Rattle.model_kit.specs.declared.model.CostExpr.{CostExpr}
 use Rattle.model_kit.specs.declared.model.CostExpr.TheVariants.{Number, Call}
-use Rattle.model_kit.specs.Names.{are_distinct}
+use Rattle.model_kit.specs.Names.{are_entries}
 use Rattle.model_kit.specs.Same.{same_numbers, same_atom, same_schema_atom}
 use Rattle.model_kit.specs.Vocabulary.{is_object_of, is_term_of, fits_signature, is_ground_atom, is_schema_atom}
 
 -- ground atoms of the vocabulary, without repeats
 abbrev pub are_ground_atoms : Vocabulary → List GroundAtom → Bool
-are_ground_atoms words atoms = list_all (is_ground_atom words) atoms && are_distinct same_atom atoms
+are_ground_atoms words atoms = are_entries (is_ground_atom words) same_atom atoms
 
 -- atoms of a schema with these parameters, without repeats
 abbrev pub are_schema_atoms : Vocabulary → List ℕ → List SchemaAtom → Bool
-are_schema_atoms words params atoms = list_all (is_schema_atom words params) atoms && are_distinct same_schema_atom atoms
+are_schema_atoms words params atoms = are_entries (is_schema_atom words params) same_schema_atom atoms
 
 -- a number, or a function with terms that fit its parameters
 abbrev pub is_cost : Vocabulary → List ℕ → CostExpr → Bool
@@ -40,15 +39,17 @@ are_schemas words [] (action ∷ actions) = false
 are_schemas words (schema ∷ schemas) [] = false
 are_schemas words (schema ∷ schemas) (action ∷ actions) = is_schema words schema action && are_schemas words schemas actions
 
--- values of functions at objects that fit, at most one at the same objects
-abbrev pub are_values : Vocabulary → List (ℕ × List ℕ × ℕ) → Bool
-are_values words values =
-    list_all (λ v. fits_signature (is_object_of words) words.functions v.0 v.1) values
-    && are_distinct (λ v w. (v.0 == w.0) && same_numbers v.1 w.1) values
+-- a function with objects that fit its parameters, and a number
+abbrev pub is_value : Vocabulary → ℕ × List ℕ × ℕ → Bool
+is_value words v = fits_signature (is_object_of words) words.functions v.0 v.1
 
--- numbers of actions, without repeats
-abbrev pub are_unknown : Vocabulary → List ℕ → Bool
-are_unknown words unknown = list_all (λ action. nat_lt action (length words.actions)) unknown && are_distinct (λ a b. a == b) unknown
+-- values of one function at the same objects
+abbrev pub same_key : ℕ × List ℕ × ℕ → ℕ × List ℕ × ℕ → Bool
+same_key v w = (v.0 == w.0) && same_numbers v.1 w.1
+
+-- the number of an action
+abbrev pub is_action : Vocabulary → ℕ → Bool
+is_action words action = nat_lt action (length words.actions)
 
 -- the lists are those of a model: initial facts, goal facts, schemas, function values and unknown schemas
 abbrev pub is_model : Vocabulary → List GroundAtom → List GroundAtom → List Schema → List (ℕ × List ℕ × ℕ) → List ℕ → Bool
@@ -56,5 +57,5 @@ is_model words init goal schemas values unknown =
     are_ground_atoms words init
     && are_ground_atoms words goal
     && are_schemas words schemas words.actions
-    && are_values words values
-    && are_unknown words unknown
+    && are_entries (is_value words) same_key values
+    && are_entries (is_action words) ◌==◌ unknown

@@ -23,3 +23,7 @@ is_name (b ∷ bs) = is_first_byte b && list_all (λ c. is_word_byte c && not (i
 abbrev pub are_distinct : {X : Type 0} → (X → X → Bool) → List X → Bool
 are_distinct same [] = true
 are_distinct same (x ∷ xs) = not (list_any (same x) xs) && are_distinct same xs
+
+-- each entry passes the test, and no two are the same
+abbrev pub are_entries : {X : Type 0} → (X → Bool) → (X → X → Bool) → List X → Bool
+are_entries passes same xs = list_all passes xs && are_distinct same xs
