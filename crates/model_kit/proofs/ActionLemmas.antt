@@ -1,39 +1,38 @@
 -- A ground action in a model: its schema is there, its terms have objects, its atoms fit, and what it costs.
-use Rattle.std.proofs.Common.{◌≡◌, ℕ, ◌<◌, ◌&&◌, zero, suc, Bool, true, false, cond, List, [], ◌∷◌, length, get_or, map, Option, Some, None, refl, sym, ap, subst, ◌∙◌, arith}
+use Rattle.std.proofs.Common.{◌≡◌, ℕ, ◌<◌, suc, Bool, true, false, List, [], ◌∷◌, length, get_or, map, Option, Some, None, refl, sym, ap, subst, ◌∙◌, arith}
 use Rattle.std.specs.Prelude.{◌==◌, not, nat_lt, IsTrue, All, slice_get, IfSome, IfNone}
 use Rattle.std.specs.List.{list_any}
 use Rattle.std.specs.Option.{option_map_or}
-use Rattle.std.specs.Cmp.{first_so, second_so}
+use Rattle.std.specs.Cmp.{second_so}
 use Rattle.std.proofs.lemmas.Bool.{true≢false, and_from, lt-ltb, not_from_true, not_from_false, and_right, cond-true, cond-false}
-use Rattle.std.proofs.lemmas.Option.{slice_get_within, get_or_from_slice_get, slice_get-get_or}
 use Rattle.std.proofs.lemmas.List.Elements.{All-map}
+use Rattle.std.specs.Cmp.Lexicographic.{pointwise}
 use Rattle.model_kit.specs.declared.vocabulary.Vocabulary.{Vocabulary}
 use Rattle.model_kit.specs.declared.vocabulary.Signature.{Signature}
 use Rattle.model_kit.specs.declared.atom.GroundAtom.{GroundAtom}
 use Rattle.model_kit.specs.declared.atom.SchemaAtom.{SchemaAtom}
 use Rattle.model_kit.specs.declared.atom.Term.{Term}
-use Rattle.model_kit.specs.declared.atom.Term.TheVariants.{Param, Object}
+use Rattle.model_kit.specs.declared.atom.Term.TheVariants.{Param}
 use Rattle.model_kit.specs.declared.action.GroundAction.{GroundAction}
 use Rattle.model_kit.specs.declared.model.Model.{Model}
 use Rattle.model_kit.specs.declared.model.Schema.{Schema}
 use Rattle.model_kit.specs.declared.model.CostExpr.{CostExpr}
 use Rattle.model_kit.specs.declared.model.CostExpr.TheVariants.{Number, Call}
 use Rattle.model_kit.specs.Types.{is_of_type}
-use Rattle.model_kit.specs.Vocabulary.{is_object_of, is_term_of, do_fit, fits_signature, is_ground_atom, is_schema_atom, IsGroundAction}
+use Rattle.model_kit.specs.Vocabulary.{is_object_of, is_term_of, fits_signature, is_ground_atom, is_schema_atom, IsGroundAction}
 use Rattle.model_kit.specs.Features.{is_cost}
-use Rattle.model_kit.specs.Places.{Place, Knows, Cost, Price, Nothing, meaning, value_of}
+use Rattle.model_kit.specs.Places.{Knows, Cost, Price, Nothing, meaning, value_of}
 use Rattle.model_kit.specs.Runs.{is_on, object_of, instance, price_of, cost_of}
 use Rattle.model_kit.specs.Judging.{ArePlaced}
-use Rattle.model_kit.proofs.WordFacts.{facts_of_words}
 use Rattle.model_kit.proofs.ModelFacts.{SchemaFacts, facts_of_model}
 use Rattle.model_kit.proofs.Fits.{entry_listed, signature_listed, each_arg_fits}
 use Rattle.model_kit.proofs.TypeLemmas.{entry_passes, instance_fits}
 
-pub fit_count : {X : Type 0} (is_of : X → ℕ → Bool) (xs : List X) (types : List ℕ) → do_fit is_of xs types ≡ true → length xs ≡ length types
+pub fit_count : {X : Type 0} (is_of : X → ℕ → Bool) (xs : List X) (types : List ℕ) → pointwise is_of xs types ≡ true → length xs ≡ length types
 fit_count is_of [] [] fit = refl
 fit_count is_of [] (t ∷ types) fit = absurd (true≢false (sym fit))
 fit_count is_of (x ∷ xs) [] fit = absurd (true≢false (sym fit))
-fit_count is_of (x ∷ xs) (t ∷ types) fit = ap suc (fit_count is_of xs types (second_so (is_of x t) (do_fit is_of xs types) fit))
+fit_count is_of (x ∷ xs) (t ∷ types) fit = ap suc (fit_count is_of xs types (second_so (is_of x t) (pointwise is_of xs types) fit))
 
 module _ (model : Model) (action : GroundAction) (fits : IsGroundAction model.words action) where
   abbrev words : Vocabulary
@@ -45,8 +44,8 @@ module _ (model : Model) (action : GroundAction) (fits : IsGroundAction model.wo
       omega (arith, facts.one_each, signature_listed (is_object_of words) words.actions action.schema action.objects fits)
 
   -- the signature of the action, whose parameters the objects fit
-  pub signature_of : (s : Signature) × (slice_get words.actions action.schema ≡ Some s) × (do_fit (is_object_of words) action.objects s.params ≡ true)
-  signature_of = entry_passes (λ s. do_fit (is_object_of words) action.objects s.params) words.actions action.schema fits
+  pub signature_of : (s : Signature) × (slice_get words.actions action.schema ≡ Some s) × (pointwise (is_object_of words) action.objects s.params ≡ true)
+  signature_of = entry_passes (λ s. pointwise (is_object_of words) action.objects s.params) words.actions action.schema fits
 
   -- each term that fits in the schema has its object
   pub terms_placed : (signatures : List Signature) (n : ℕ) (args : List Term) → fits_signature (is_term_of words signature_of.0.params) signatures n args ≡ true → ArePlaced action.objects args

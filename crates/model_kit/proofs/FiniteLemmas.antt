@@ -1,13 +1,13 @@
 -- A model with finitely many features as a graph: a state is a list of flags over the atoms that can ever be true.
 -- A list of ground actions is valid and costs less than a bound exactly where it is a way of the graph to a goal below the bound, so it is decided whether a plan is cheapest.
-use Rattle.std.proofs.Common.{◌≡◌, ℕ, ◌+◌, ◌-◌, ◌<◌, ◌≤◌, zero, suc, Bool, true, false, cond, List, [], ◌∷◌, ◌++◌, length, get_or, map, Option, Some, None, refl, sym, ap, subst, ◌∙◌, arith, ⊎_elim, inl, inr}
-use Rattle.std.specs.Prelude.{◌⊎◌, ◌↔◌, ◌||◌, ◌&&◌, not, IsTrue, Contains, All, is_some, IsSome, unwrap_or, sum_by}
+use Rattle.std.proofs.Common.{◌≡◌, ℕ, ◌+◌, ◌-◌, ◌<◌, zero, suc, Bool, true, false, cond, List, [], ◌∷◌, ◌++◌, length, get_or, map, Option, Some, None, refl, sym, ap, subst, ◌∙◌, arith, ⊎_elim, inl, inr}
+use Rattle.std.specs.Prelude.{◌⊎◌, ◌||◌, ◌&&◌, not, IsTrue, Contains, All, is_some, unwrap_or}
 use Rattle.std.specs.Bool.{Decides}
 use Rattle.std.specs.List.{list_any, list_all, flat_map}
-use Rattle.std.proofs.lemmas.Bool.{true≢false, cases_Bool, cases_lt, and_parts, and_from, or_cases, or_left, or_right, not_from_true, not_from_false, not-true, false_from_ne_true}
+use Rattle.std.proofs.lemmas.Bool.{true≢false, cases_Bool, cases_lt, and_parts, and_from, or_cases, or_left, or_right, not_from_false, not-true, false_from_ne_true}
 use Rattle.std.proofs.lemmas.List.{length-map}
 use Rattle.std.proofs.lemmas.List.Sums.{sum_by-cons}
-use Rattle.std.proofs.lemmas.List.Elements.{Contains-append_left, Contains-append_right, Contains-get_or, All-contains, All-cons, All-head, All-tail}
+use Rattle.std.proofs.lemmas.List.Elements.{Contains-append_left, Contains-append_right, All-contains, All-cons, All-head, All-tail}
 use Rattle.model_kit.specs.declared.vocabulary.Vocabulary.{Vocabulary}
 use Rattle.model_kit.specs.declared.atom.GroundAtom.{GroundAtom}
 use Rattle.model_kit.specs.declared.atom.SchemaAtom.{SchemaAtom}
@@ -15,7 +15,7 @@ use Rattle.model_kit.specs.declared.action.GroundAction.{GroundAction}
 use Rattle.model_kit.specs.Same.{same_atom}
 use Rattle.model_kit.specs.Vocabulary.{is_ground_action, IsGroundAction}
 use Rattle.model_kit.specs.Places.{Place, Init, Goal, Pre, Add, Del, Meaning}
-use Rattle.model_kit.specs.Runs.{State, is_on, Has, instance, cost_of, Needs, Adds, Deletes, Applies, After, Leads, Initial, IsGoal, IsValid, cost, IsCheapest}
+use Rattle.model_kit.specs.Runs.{State, is_on, Has, instance, cost_of, Needs, Applies, After, Leads, Initial, IsGoal, cost, IsCheapest}
 use Rattle.model_kit.proofs.Alike.{same_atom-decides}
 use Rattle.model_kit.proofs.Distinct.{all_decides}
 use Rattle.model_kit.proofs.StepLemmas.{map_contains}

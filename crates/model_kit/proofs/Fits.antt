@@ -1,17 +1,18 @@
 -- What fits a signature names entries of the vocabulary.
-use Rattle.std.proofs.Common.{◌≡◌, ℕ, ◌<◌, ◌&&◌, zero, suc, Bool, true, false, List, [], ◌∷◌, length, get_or, Option, Some, None, refl, sym, ◌∙◌, ap, arith}
+use Rattle.std.proofs.Common.{◌≡◌, ℕ, ◌<◌, zero, suc, Bool, true, false, List, [], ◌∷◌, length, get_or, Some, sym, ◌∙◌, arith}
 use Rattle.std.proofs.lemmas.Bool.{true≢false}
 use Rattle.std.proofs.lemmas.Option.{slice_get_within, get_or_from_slice_get}
 use Rattle.std.specs.Prelude.{slice_get, IsTrue}
 use Rattle.std.specs.Option.{option_map_or}
 use Rattle.std.specs.Cmp.{first_so, second_so}
+use Rattle.std.specs.Cmp.Lexicographic.{pointwise}
 use Rattle.model_kit.specs.declared.vocabulary.Vocabulary.{Vocabulary}
 use Rattle.model_kit.specs.declared.vocabulary.Signature.{Signature}
 use Rattle.model_kit.specs.declared.atom.GroundAtom.{GroundAtom}
 use Rattle.model_kit.specs.declared.atom.SchemaAtom.{SchemaAtom}
 use Rattle.model_kit.specs.declared.atom.Term.{Term}
 use Rattle.model_kit.specs.declared.atom.Term.TheVariants.{Object}
-use Rattle.model_kit.specs.Vocabulary.{is_object_of, is_term_of, do_fit, fits_signature, is_ground_atom, is_schema_atom}
+use Rattle.model_kit.specs.Vocabulary.{is_object_of, is_term_of, fits_signature, is_ground_atom, is_schema_atom}
 
 -- a test of an entry passes only where there is one
 pub entry_listed : {X : Type 0} (test : X → Bool) (xs : List X) (n : ℕ) → option_map_or test (slice_get xs n) false ≡ true → n < length xs
@@ -20,17 +21,17 @@ entry_listed test (x ∷ xs) zero passes = omega arith
 entry_listed test (x ∷ xs) (suc n) passes = let deeper = entry_listed test xs n passes in omega arith
 
 pub signature_listed : {X : Type 0} (is_of : X → ℕ → Bool) (signatures : List Signature) (n : ℕ) (args : List X) → fits_signature is_of signatures n args ≡ true → n < length signatures
-signature_listed is_of signatures n args = entry_listed (λ s. do_fit is_of args s.params) signatures n
+signature_listed is_of signatures n args = entry_listed (λ s. pointwise is_of args s.params) signatures n
 
 pub object_listed : (words : Vocabulary) (object type : ℕ) → is_object_of words object type ≡ true → object < length words.objects
 object_listed words object type = entry_listed _ words.objects object
 
 -- each argument is of some type
-pub each_fits : {X : Type 0} (is_of : X → ℕ → Bool) (xs : List X) (types : List ℕ) → do_fit is_of xs types ≡ true → (k : ℕ) (d : X) → k < length xs → (type : ℕ) × (is_of (get_or xs k d) type ≡ true)
+pub each_fits : {X : Type 0} (is_of : X → ℕ → Bool) (xs : List X) (types : List ℕ) → pointwise is_of xs types ≡ true → (k : ℕ) (d : X) → k < length xs → (type : ℕ) × (is_of (get_or xs k d) type ≡ true)
 each_fits is_of [] types fit k d lt = absurd (omega arith)
 each_fits is_of (x ∷ xs) [] fit k d lt = absurd (true≢false (sym fit))
-each_fits is_of (x ∷ xs) (type ∷ types) fit zero d lt = (type, first_so (is_of x type) (do_fit is_of xs types) fit)
-each_fits is_of (x ∷ xs) (type ∷ types) fit (suc k) d lt = each_fits is_of xs types (second_so (is_of x type) (do_fit is_of xs types) fit) k d (omega arith)
+each_fits is_of (x ∷ xs) (type ∷ types) fit zero d lt = (type, first_so (is_of x type) (pointwise is_of xs types) fit)
+each_fits is_of (x ∷ xs) (type ∷ types) fit (suc k) d lt = each_fits is_of xs types (second_so (is_of x type) (pointwise is_of xs types) fit) k d (omega arith)
 
 pub each_arg_fits : {X : Type 0} (is_of : X → ℕ → Bool) (signatures : List Signature) (n : ℕ) (args : List X) → fits_signature is_of signatures n args ≡ true → (k : ℕ) (d : X) → k < length args → (type : ℕ) × (is_of (get_or args k d) type ≡ true)
 each_arg_fits is_of [] n args fit = absurd (true≢false (sym fit))

@@ -1,15 +1,14 @@
 -- Different atoms of a vocabulary have different printed forms.
 -- No name has a blank or a closing parenthesis, so a printed form is cut into its name and its arguments in one way alone.
-use Rattle.std.proofs.Common.{◌≡◌, ℕ, ◌+◌, ◌/◌, ◌%◌, ◌<◌, ◌≤◌, ◌^◌, ◌&&◌, zero, suc, Bool, true, false, List, [], ◌∷◌, ◌++◌, length, get_or, map, Option, Some, None, refl, sym, ap, subst, ◌∙◌, arith, append_assoc, ⊎_elim}
-use Rattle.std.specs.Prelude.{◌==◌, ◌≢◌, not, nat_le, AllPairs, All, IsTrue, IsFalse, codes, decimal, slice_get}
+use Rattle.std.proofs.Common.{◌≡◌, ℕ, ◌+◌, ◌%◌, ◌<◌, ◌^◌, ◌&&◌, zero, suc, Bool, true, false, List, [], ◌∷◌, ◌++◌, length, get_or, map, refl, sym, ap, subst, ◌∙◌, arith, append_assoc, ⊎_elim}
+use Rattle.std.specs.Prelude.{◌==◌, ◌≢◌, not, IsTrue, codes, decimal, slice_get}
 use Rattle.std.specs.List.{list_all}
 use Rattle.std.specs.Option.{option_map_or}
 use Rattle.std.specs.Cmp.{first_so, second_so}
-use Rattle.std.proofs.lemmas.Bool.{true≢false, and_parts, and_from, cases_order, eqb-true, leb-true, not-true, eqb-false, ne_eqb, not_from_false}
+use Rattle.std.proofs.lemmas.Bool.{true≢false, and_parts, and_from, cases_order}
 use Rattle.std.proofs.lemmas.Bool.Decides.{nat_tests}
 use Rattle.std.proofs.lemmas.Fmt.{decimal_by_steps, decimal_injective}
-use Rattle.std.proofs.lemmas.List.Sums.{AllPass-from_list_all}
-use Rattle.std.proofs.lemmas.Option.{slice_get_within, get_or_from_slice_get, slice_get-get_or}
+use Rattle.std.proofs.lemmas.Option.{slice_get-get_or}
 use Rattle.model_kit.specs.declared.vocabulary.Vocabulary.{Vocabulary}
 use Rattle.model_kit.specs.declared.vocabulary.Signature.{Signature}
 use Rattle.model_kit.specs.declared.atom.GroundAtom.{GroundAtom}
@@ -18,7 +17,7 @@ use Rattle.model_kit.specs.declared.atom.Term.{Term}
 use Rattle.model_kit.specs.declared.atom.Term.TheVariants.{Param, Object}
 use Rattle.model_kit.specs.Names.{is_word_byte, is_capital, is_first_byte, is_name}
 use Rattle.model_kit.specs.Types.{is_of_type}
-use Rattle.model_kit.specs.Vocabulary.{is_object_of, is_term_of, do_fit, fits_signature, is_ground_atom, is_schema_atom}
+use Rattle.model_kit.specs.Vocabulary.{is_object_of, is_term_of, fits_signature, is_ground_atom, is_schema_atom}
 use Rattle.model_kit.specs.Printed.{name_of, object_name, term_form, args_form, form, atom_form, schema_atom_form}
 use Rattle.model_kit.proofs.WordFacts.{AreNamed, typed_named, signatures_named, facts_of_words}
 use Rattle.model_kit.proofs.Fits.{entry_listed, signature_listed, object_listed, each_arg_fits}

@@ -1,10 +1,8 @@
 -- A plan has one judgement.
-use Rattle.std.proofs.Common.{◌≡◌, ℕ, ◌+◌, ◌<◌, ◌≤◌, Bool, true, false, List, [], ◌∷◌, ◌++◌, length, Option, Some, None, refl, sym, ap, subst, ◌∙◌, arith, ⊎_elim, inl, inr}
-use Rattle.std.specs.Prelude.{◌≢◌, IsTrue, IsNone, IsSome, is_some}
+use Rattle.std.proofs.Common.{◌≡◌, ℕ, ◌<◌, List, ◌∷◌, ◌++◌, sym, ap, subst, ◌∙◌, arith, ⊎_elim}
+use Rattle.std.specs.Prelude.{◌≢◌, IsNone, IsSome}
 use Rattle.std.specs.Ordering.{nat_cmp}
-use Rattle.std.specs.declared.cmp.Ordering.{Ordering}
-use Rattle.std.specs.declared.cmp.Ordering.TheVariants.{Less, Equal, Greater}
-use Rattle.std.specs.Cmp.{IsTotalOrder}
+use Rattle.std.specs.declared.cmp.Ordering.TheVariants.{Less, Equal}
 use Rattle.std.specs.Cmp.Lexicographic.{slice_cmp, nat_list_cmp_total}
 use Rattle.std.proofs.lemmas.Bool.{true≢false, cases_Bool, cases_order}
 use Rattle.std.proofs.lemmas.Cmp.{tied_itself}
@@ -16,7 +14,7 @@ use Rattle.model_kit.specs.declared.judging.NamedJudgement.TheVariants.{Valid, F
 use Rattle.model_kit.specs.Same.{same_atom}
 use Rattle.model_kit.specs.Places.{Meaning}
 use Rattle.model_kit.specs.Printed.{atom_form}
-use Rattle.model_kit.specs.Runs.{State, cost_of, Needs, Applies, After, Leads, Initial, IsGoal, IsValid, cost}
+use Rattle.model_kit.specs.Runs.{State, cost_of, Needs, Applies, Leads, Initial, IsGoal}
 use Rattle.model_kit.specs.Judgement.{IsFirstPrinted, Lacks, IsOpen, StopsAt, Judges}
 use Rattle.model_kit.proofs.Alike.{same_atom-decides}
 use Rattle.model_kit.proofs.RunLemmas.{leads_weaker, leads_constant, leads_both, leads_split, split_same, split_later}

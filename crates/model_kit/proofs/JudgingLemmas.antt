@@ -1,6 +1,6 @@
 -- What is known after some steps of a plan, and what the loop over the steps answers.
-use Rattle.std.proofs.Common.{◌≡◌, ℕ, ◌+◌, ◌-◌, ◌*◌, ◌<◌, ◌≤◌, ◌^◌, Bool, true, false, List, [], ◌∷◌, ◌++◌, length, take, drop, Option, Some, None, refl, sym, ap, subst, ◌∙◌, arith, inl, inr}
-use Rattle.std.specs.Prelude.{◌≢◌, ◌↔◌, IsTrue, IsNone, All, Contains, sum_by, unwrap_or, slice_get}
+use Rattle.std.proofs.Common.{◌≡◌, ℕ, ◌+◌, ◌*◌, ◌<◌, ◌≤◌, ◌^◌, List, [], ◌∷◌, ◌++◌, length, take, drop, Some, refl, sym, ap, subst, ◌∙◌, arith}
+use Rattle.std.specs.Prelude.{All, unwrap_or, slice_get}
 use Rattle.std.specs.List.{list_any}
 use Rattle.std.proofs.lemmas.List.{take-append-drop, take_all, length-take-le}
 use Rattle.std.proofs.lemmas.Option.{slice_get_within}
@@ -11,13 +11,11 @@ use Rattle.model_kit.specs.declared.vocabulary.Vocabulary.{Vocabulary}
 use Rattle.model_kit.specs.declared.atom.GroundAtom.{GroundAtom}
 use Rattle.model_kit.specs.declared.action.GroundAction.{GroundAction}
 use Rattle.model_kit.specs.declared.model.Model.{Model}
-use Rattle.model_kit.specs.declared.judging.NamedJudgement.{NamedJudgement}
 use Rattle.model_kit.specs.declared.judging.NamedJudgement.TheVariants.{Valid, Fails, NoCost, GoalMissing}
-use Rattle.model_kit.specs.declared.judging.Step.{Step}
 use Rattle.model_kit.specs.declared.judging.Step.TheVariants.{Taken, Unmet, Unpriced}
 use Rattle.model_kit.specs.Same.{same_atom}
-use Rattle.model_kit.specs.Places.{Meaning, Goal, meaning}
-use Rattle.model_kit.specs.Runs.{State, Has, cost_of, Needs, Applies, After, Leads, Initial, IsGoal, IsValid, cost}
+use Rattle.model_kit.specs.Places.{Meaning, meaning}
+use Rattle.model_kit.specs.Runs.{State, cost_of, Needs, Applies, After, Leads, Initial, IsGoal, cost}
 use Rattle.model_kit.specs.Judgement.{IsFirstPrinted, Lacks, IsOpen, StopsAt, Judges}
 use Rattle.model_kit.specs.Judging.{has, StateOf, IsMissing, Steps}
 use Rattle.model_kit.proofs.Alike.{same_atom-decides}

@@ -17,6 +17,7 @@ pub mod ListLemmas
 pub mod FiniteLemmas
 pub mod LawLemmas
 pub mod PairLemmas
+pub mod FitLemmas
 pub mod Alike
 pub mod Ands
 pub mod Distinct

@@ -1,18 +1,16 @@
 -- What listed things, tuples of them and lists of flags contain.
-use Rattle.std.proofs.Common.{◌≡◌, ℕ, ◌+◌, ◌<◌, ◌≤◌, zero, suc, Bool, true, false, cond, List, [], ◌∷◌, ◌++◌, length, get_or, map, refl, sym, ap, subst, ◌∙◌, arith, zero-add, ⊎_elim, inl, inr}
-use Rattle.std.specs.Prelude.{◌⊎◌, ◌||◌, ◌&&◌, not, IsTrue, Contains, All, slice_get}
+use Rattle.std.proofs.Common.{◌≡◌, ℕ, ◌<◌, zero, suc, Bool, true, false, List, [], ◌∷◌, length, get_or, map, refl, sym, ap, subst, ◌∙◌, arith, zero-add}
+use Rattle.std.specs.Prelude.{Contains, slice_get}
 use Rattle.std.specs.Bool.{Decides, beq}
-use Rattle.std.specs.List.{list_any, list_all, flat_map, range_with_len}
+use Rattle.std.specs.List.{flat_map, range_with_len}
 use Rattle.std.specs.Option.{option_map_or}
 use Rattle.std.specs.Cmp.Lexicographic.{pointwise, pointwise_decides}
-use Rattle.std.proofs.lemmas.Bool.{true≢false, cases_Bool, and_parts, and_from, or_cases, or_left, or_right, not_from_true, not_from_false}
-use Rattle.std.proofs.lemmas.List.{length-map}
+use Rattle.std.proofs.lemmas.Bool.{true≢false}
 use Rattle.std.proofs.lemmas.List.FromFn.{get_or-range_with_len, length-range_with_len}
-use Rattle.std.proofs.lemmas.List.Elements.{Contains-append_left, Contains-append_right, Contains-get_or}
+use Rattle.std.proofs.lemmas.List.Elements.{Contains-append_left, Contains-append_right}
 use Rattle.model_kit.specs.declared.vocabulary.Vocabulary.{Vocabulary}
-use Rattle.model_kit.specs.declared.vocabulary.Signature.{Signature}
 use Rattle.model_kit.specs.declared.action.GroundAction.{GroundAction}
-use Rattle.model_kit.specs.Vocabulary.{is_object_of, do_fit, fits_signature, IsGroundAction}
+use Rattle.model_kit.specs.Vocabulary.{is_object_of, IsGroundAction}
 use Rattle.model_kit.proofs.Fits.{signature_listed, object_listed, each_fits}
 use Rattle.model_kit.proofs.TypeLemmas.{entry_passes}
 use Rattle.model_kit.proofs.ActionLemmas.{fit_count}
@@ -77,7 +75,7 @@ all_actions words =
 
 pub ground_listed : (words : Vocabulary) (action : GroundAction) → IsGroundAction words action → Contains (all_actions words) action
 ground_listed words action fits =
-    let at = entry_passes (λ s. do_fit (is_object_of words) action.objects s.params) words.actions action.schema fits in
+    let at = entry_passes (λ s. pointwise (is_object_of words) action.objects s.params) words.actions action.schema fits in
     let number = signature_listed (is_object_of words) words.actions action.schema action.objects fits in
     let params : params_of words action.schema ≡ at.0.params = ap (λ o. option_map_or (λ s. s.params) o []) at.1 in
     let count : length action.objects ≡ length (params_of words action.schema) = fit_count (is_object_of words) action.objects at.0.params at.2 ∙ ap (λ ps. length ps) (sym params) in

@@ -1,12 +1,11 @@
 -- The search for the missing atom that is printed first: what is known after some places of the list, and at its end.
-use Rattle.std.proofs.Common.{◌≡◌, ℕ, ◌+◌, ◌<◌, ◌≤◌, Bool, true, false, cond, List, [], ◌∷◌, length, get_or, Option, Some, None, refl, sym, ap, subst, ◌∙◌, arith, ⊎_elim}
-use Rattle.std.specs.Prelude.{◌≢◌, IsTrue, All, Contains, slice_get, IfNone, IfSome}
+use Rattle.std.proofs.Common.{◌≡◌, ℕ, ◌+◌, ◌<◌, ◌≤◌, Bool, true, false, cond, List, length, get_or, Option, Some, None, refl, sym, ap, subst, ◌∙◌, arith, ⊎_elim}
+use Rattle.std.specs.Prelude.{IsTrue, All, Contains, slice_get}
 use Rattle.std.specs.Ordering.{nat_cmp, is_lt, is_gt, ordering_reverse}
 use Rattle.std.specs.declared.cmp.Ordering.{Ordering}
 use Rattle.std.specs.declared.cmp.Ordering.TheVariants.{Less, Equal, Greater}
-use Rattle.std.specs.Cmp.{IsTotalOrder, Equal-is}
 use Rattle.std.specs.Cmp.Lexicographic.{slice_cmp, nat_list_cmp_total}
-use Rattle.std.proofs.lemmas.Bool.{true≢false, cases_Bool, cases_lt, cond-true, cond-false}
+use Rattle.std.proofs.lemmas.Bool.{true≢false, cases_Bool, cases_lt}
 use Rattle.std.proofs.lemmas.Cmp.{upto, tied_itself}
 use Rattle.std.proofs.lemmas.Map.Lookups.{exact_bytes}
 use Rattle.std.proofs.lemmas.Option.{slice_get_within, get_or_from_slice_get, slice_get-get_or}
@@ -16,7 +15,6 @@ use Rattle.model_kit.specs.declared.vocabulary.Vocabulary.{Vocabulary}
 use Rattle.model_kit.specs.declared.atom.GroundAtom.{GroundAtom}
 use Rattle.model_kit.specs.Vocabulary.{is_ground_atom}
 use Rattle.model_kit.specs.Printed.{atom_form}
-use Rattle.model_kit.specs.Differences.{IsPrintedBefore}
 use Rattle.model_kit.specs.Judgement.{IsFirstPrinted}
 use Rattle.model_kit.specs.Judging.{has, StateOf, IsMissing, earlier_of}
 use Rattle.model_kit.proofs.FormLemmas.{atom_form-injective}

@@ -1,21 +1,20 @@
 -- The facts of models, each by its name, and how to show them of new lists.
-use Rattle.std.proofs.Common.{◌≡◌, ℕ, ◌<◌, ◌&&◌, zero, suc, Bool, true, false, List, [], ◌∷◌, length, get_or, Option, Some, None, refl, sym, ap, ◌∙◌, arith}
-use Rattle.std.specs.Prelude.{◌==◌, nat_lt, ◌≢◌, AllPairs, All, IsTrue, slice_get}
+use Rattle.std.proofs.Common.{◌≡◌, ℕ, zero, suc, true, List, [], ◌∷◌, length, Some, refl, sym, ap, arith}
+use Rattle.std.specs.Prelude.{◌==◌, slice_get}
 use Rattle.std.specs.Bool.{Decides}
-use Rattle.std.specs.List.{list_all}
 use Rattle.std.specs.Cmp.{first_so, second_so}
-use Rattle.std.proofs.lemmas.Bool.{true≢false, and_parts, and_from}
-use Rattle.std.proofs.lemmas.Bool.Decides.{Decides-ltb, Decides-eqb, Decides-and}
+use Rattle.std.proofs.lemmas.Bool.{true≢false, and_from}
+use Rattle.std.proofs.lemmas.Bool.Decides.{Decides-eqb, Decides-and}
+use Rattle.std.specs.Cmp.Lexicographic.{pointwise}
 use Rattle.model_kit.specs.declared.vocabulary.Vocabulary.{Vocabulary}
 use Rattle.model_kit.specs.declared.vocabulary.Signature.{Signature}
 use Rattle.model_kit.specs.declared.atom.GroundAtom.{GroundAtom}
-use Rattle.model_kit.specs.declared.atom.SchemaAtom.{SchemaAtom}
 use Rattle.model_kit.specs.declared.model.Model.{Model}
 use Rattle.model_kit.specs.declared.model.Schema.{Schema}
 use Rattle.model_kit.specs.Names.{are_entries}
 use Rattle.model_kit.specs.Same.{same_numbers, same_atom, same_schema_atom}
-use Rattle.model_kit.specs.Vocabulary.{is_object_of, fits_signature, is_ground_atom, is_schema_atom}
-use Rattle.model_kit.specs.Features.{are_ground_atoms, are_schema_atoms, is_cost, is_schema, are_schemas, is_value, same_key, is_action, is_model}
+use Rattle.model_kit.specs.Vocabulary.{is_ground_atom, is_schema_atom}
+use Rattle.model_kit.specs.Features.{are_ground_atoms, are_schema_atoms, is_cost, is_schema, is_value, same_key, is_action, is_model}
 use Rattle.model_kit.proofs.Ands.{and4, and5, all4, all5}
 use Rattle.model_kit.proofs.Alike.{same_numbers-decides, same_atom-decides, same_schema_atom-decides}
 use Rattle.model_kit.proofs.Distinct.{ListFacts, list_facts, list_sound}
@@ -45,32 +44,32 @@ module _ (words : Vocabulary) where
       (list_sound (is_schema_atom words action.params) same_schema_atom (λ f g. f ≡ g) same_schema_atom-decides schema.del facts.del_kept)
       facts.cost_fits
 
-  schemas_count : (schemas : List Schema) (actions : List Signature) → are_schemas words schemas actions ≡ true → length schemas ≡ length actions
+  schemas_count : (schemas : List Schema) (actions : List Signature) → pointwise (is_schema words) schemas actions ≡ true → length schemas ≡ length actions
   schemas_count [] [] e = refl
   schemas_count [] (action ∷ actions) e = absurd (true≢false (sym e))
   schemas_count (schema ∷ schemas) [] e = absurd (true≢false (sym e))
-  schemas_count (schema ∷ schemas) (action ∷ actions) e = ap suc (schemas_count schemas actions (second_so (is_schema words schema action) (are_schemas words schemas actions) e))
+  schemas_count (schema ∷ schemas) (action ∷ actions) e = ap suc (schemas_count schemas actions (second_so (is_schema words schema action) (pointwise (is_schema words) schemas actions) e))
 
-  schema_at : (schemas : List Schema) (actions : List Signature) → are_schemas words schemas actions ≡ true
+  schema_at : (schemas : List Schema) (actions : List Signature) → pointwise (is_schema words) schemas actions ≡ true
       → (n : ℕ) (schema : Schema) (action : Signature) → slice_get schemas n ≡ Some schema → slice_get actions n ≡ Some action → is_schema words schema action ≡ true
   schema_at [] actions e n schema action at_n action_n = absurd (cc)
   schema_at (x ∷ schemas) [] e n schema action at_n action_n = absurd (cc)
   schema_at (x ∷ schemas) (y ∷ actions) e zero schema action at_n action_n =
-      let here = first_so (is_schema words x y) (are_schemas words schemas actions) e in
+      let here = first_so (is_schema words x y) (pointwise (is_schema words) schemas actions) e in
       let x_is : x ≡ schema = cc in
       let y_is : y ≡ action = cc in
       rw (← x_is, ← y_is) here
   schema_at (x ∷ schemas) (y ∷ actions) e (suc n) schema action at_n action_n =
-      schema_at schemas actions (second_so (is_schema words x y) (are_schemas words schemas actions) e) n schema action at_n action_n
+      schema_at schemas actions (second_so (is_schema words x y) (pointwise (is_schema words) schemas actions) e) n schema action at_n action_n
 
   schemas_from : (schemas : List Schema) (actions : List Signature) → length schemas ≡ length actions
       → ((n : ℕ) (schema : Schema) (action : Signature) → slice_get schemas n ≡ Some schema → slice_get actions n ≡ Some action → is_schema words schema action ≡ true)
-      → are_schemas words schemas actions ≡ true
+      → pointwise (is_schema words) schemas actions ≡ true
   schemas_from [] [] same each = refl
   schemas_from [] (action ∷ actions) same each = absurd (omega arith)
   schemas_from (schema ∷ schemas) [] same each = absurd (omega arith)
   schemas_from (schema ∷ schemas) (action ∷ actions) same each =
-      and_from (is_schema words schema action) (are_schemas words schemas actions) (each zero schema action refl refl)
+      and_from (is_schema words schema action) (pointwise (is_schema words) schemas actions) (each zero schema action refl refl)
       (schemas_from schemas actions (omega arith) (λ n s a s_is a_is. each (suc n) s a s_is a_is))
 
 -- what every model keeps
@@ -88,7 +87,7 @@ same_key-decides v w = Decides-and (v.0 == w.0) (same_numbers v.1 w.1) (Decides-
 module _ (words : Vocabulary) (init goal : List GroundAtom) (schemas : List Schema) (values : List (ℕ × List ℕ × ℕ)) (unknown : List ℕ) where
   pub model_facts : is_model words init goal schemas values unknown ≡ true → ModelFacts words init goal schemas values unknown
   model_facts e =
-      let parts = and5 (are_ground_atoms words init) (are_ground_atoms words goal) (are_schemas words schemas words.actions) (are_entries (is_value words) same_key values) (are_entries (is_action words) ◌==◌ unknown) e in record {
+      let parts = and5 (are_ground_atoms words init) (are_ground_atoms words goal) (pointwise (is_schema words) schemas words.actions) (are_entries (is_value words) same_key values) (are_entries (is_action words) ◌==◌ unknown) e in record {
         init_kept = list_facts (is_ground_atom words) same_atom (λ a b. a ≡ b) same_atom-decides init parts.0;
         goal_kept = list_facts (is_ground_atom words) same_atom (λ a b. a ≡ b) same_atom-decides goal parts.1;
         one_each = schemas_count words schemas words.actions parts.2;
@@ -100,7 +99,7 @@ module _ (words : Vocabulary) (init goal : List GroundAtom) (schemas : List Sche
   -- what must be shown of new lists to make a model of them
   pub model_sound : ModelFacts words init goal schemas values unknown → is_model words init goal schemas values unknown ≡ true
   model_sound facts =
-      all5 (are_ground_atoms words init) (are_ground_atoms words goal) (are_schemas words schemas words.actions) (are_entries (is_value words) same_key values) (are_entries (is_action words) ◌==◌ unknown)
+      all5 (are_ground_atoms words init) (are_ground_atoms words goal) (pointwise (is_schema words) schemas words.actions) (are_entries (is_value words) same_key values) (are_entries (is_action words) ◌==◌ unknown)
       (list_sound (is_ground_atom words) same_atom (λ a b. a ≡ b) same_atom-decides init facts.init_kept)
       (list_sound (is_ground_atom words) same_atom (λ a b. a ≡ b) same_atom-decides goal facts.goal_kept)
       (schemas_from words schemas words.actions facts.one_each (λ n schema action s_is a_is. schema_sound words schema action (facts.schemas_kept n schema action s_is a_is)))

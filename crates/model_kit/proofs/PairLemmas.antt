@@ -1,14 +1,14 @@
 -- A ground action of the planner's vocabulary is one of the joint vocabulary.
-use Rattle.std.proofs.Common.{◌≡◌, ℕ, zero, suc, Bool, true, false, List, [], ◌∷◌, ◌++◌, length, get_or, Option, Some, None, refl, sym, ap, subst, ◌∙◌}
-use Rattle.std.specs.Prelude.{All, slice_get, IsTrue}
+use Rattle.std.proofs.Common.{◌≡◌, ℕ, zero, suc, true, false, List, [], ◌∷◌, ◌++◌, Some, sym, ap, subst, ◌∙◌}
+use Rattle.std.specs.Prelude.{All, slice_get}
 use Rattle.std.specs.Option.{option_map_or}
 use Rattle.std.proofs.lemmas.List.Elements.{All-weaker}
+use Rattle.std.specs.Cmp.Lexicographic.{pointwise}
 use Rattle.model_kit.specs.declared.vocabulary.Vocabulary.{Vocabulary}
-use Rattle.model_kit.specs.declared.vocabulary.Signature.{Signature}
 use Rattle.model_kit.specs.declared.action.GroundAction.{GroundAction}
 use Rattle.model_kit.specs.Types.{is_of_type}
-use Rattle.model_kit.specs.Vocabulary.{is_object_of, do_fit, fits_signature, IsGroundAction}
-use Rattle.model_kit.specs.Pairs.{IsJoint, joined}
+use Rattle.model_kit.specs.Vocabulary.{is_object_of, IsGroundAction}
+use Rattle.model_kit.specs.Pairs.{IsJoint}
 use Rattle.model_kit.proofs.TypeLemmas.{entry_passes, entry_from}
 
 slice_get-append : {X : Type 0} (xs ys : List X) (n : ℕ) (x : X) → slice_get xs n ≡ Some x → slice_get (xs ++ ys) n ≡ Some x
@@ -23,11 +23,11 @@ module _ (planner user words : Vocabulary) (joint : IsJoint planner user words) 
 
   pub joint_ground : (action : GroundAction) → IsGroundAction planner action → IsGroundAction words action
   joint_ground action fits =
-      let at = entry_passes (λ s. do_fit (is_object_of planner) action.objects s.params) planner.actions action.schema fits in
+      let at = entry_passes (λ s. pointwise (is_object_of planner) action.objects s.params) planner.actions action.schema fits in
       let there : slice_get words.actions action.schema ≡ Some at.0 =
           ap (λ actions. slice_get actions action.schema) joint.actions ∙ slice_get-append planner.actions _ action.schema at.0 at.1 in
-      entry_from (λ s. do_fit (is_object_of words) action.objects s.params) words.actions action.schema at.0 there
-      (subst (λ is_of. do_fit is_of action.objects at.0.params ≡ true) (sym same_object) at.2)
+      entry_from (λ s. pointwise (is_object_of words) action.objects s.params) words.actions action.schema at.0 there
+      (subst (λ is_of. pointwise is_of action.objects at.0.params ≡ true) (sym same_object) at.2)
 
   pub plan_ground : (plan : List GroundAction) → All (IsGroundAction planner) plan → All (IsGroundAction words) plan
   plan_ground plan = All-weaker (IsGroundAction planner) (IsGroundAction words) joint_ground plan

@@ -1,11 +1,11 @@
 -- After all differences are told the user's model is the planner's.
-use Rattle.std.proofs.Common.{◌≡◌, ℕ, ◌+◌, ◌<◌, ◌≤◌, zero, suc, Bool, true, false, cond, List, [], ◌∷◌, length, refl, sym, ap, subst, ◌∙◌, arith, ⊎_elim, inl, inr}
-use Rattle.std.specs.Prelude.{◌⊎◌, ◌≢◌, ◌||◌, nat_eq, IsTrue, Contains}
+use Rattle.std.proofs.Common.{◌≡◌, ℕ, ◌+◌, ◌<◌, ◌≤◌, zero, suc, Bool, true, false, cond, List, [], ◌∷◌, length, refl, sym, ap, ◌∙◌, arith, ⊎_elim}
+use Rattle.std.specs.Prelude.{◌||◌, nat_eq, Contains}
 use Rattle.std.specs.List.{list_any, range_with_len}
 use Rattle.std.specs.Ordering.{nat_cmp}
 use Rattle.std.specs.FinSet as set
 use Rattle.std.proofs.lemmas.Bool.{true≢false, cases_Bool, cases_order, or_cases, or_parts, or_left, or_right, eq-eqb, eqb-true}
-use Rattle.model_kit.specs.Places.{Place, Content, Meaning, same_place}
+use Rattle.model_kit.specs.Places.{Place, Meaning, same_place}
 use Rattle.model_kit.specs.Differences.{is_told, patched}
 use Rattle.model_kit.proofs.Alike.{same_place-decides}
 use Rattle.model_kit.proofs.OrderLemmas.{Within}

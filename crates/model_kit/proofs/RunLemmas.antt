@@ -1,10 +1,10 @@
 -- Runs: what holds of the state that actions lead to, and that a run depends on which atoms are in its states and on nothing else.
-use Rattle.std.proofs.Common.{◌≡◌, ℕ, ◌+◌, ◌<◌, ◌≤◌, zero, suc, List, [], ◌∷◌, ◌++◌, length, refl, sym, ap, subst, ◌∙◌, arith, ⊎_elim, inl, inr}
-use Rattle.std.specs.Prelude.{◌≢◌, ◌↔◌, ◌⊎◌, IsTrue, IsSome}
+use Rattle.std.proofs.Common.{◌≡◌, ◌<◌, List, [], ◌∷◌, ◌++◌, length, refl, sym, ap, arith, ⊎_elim, inl, inr}
+use Rattle.std.specs.Prelude.{◌↔◌}
 use Rattle.model_kit.specs.declared.atom.GroundAtom.{GroundAtom}
 use Rattle.model_kit.specs.declared.action.GroundAction.{GroundAction}
 use Rattle.model_kit.specs.Places.{Meaning}
-use Rattle.model_kit.specs.Runs.{State, cost_of, Needs, Adds, Deletes, Applies, After, Leads}
+use Rattle.model_kit.specs.Runs.{State, Applies, After, Leads}
 
 -- two states have the same atoms
 abbrev pub Alike : State → State → Type 0

@@ -1,14 +1,11 @@
 -- What an insertion and a removal change of a set of atoms.
-use Rattle.std.proofs.Common.{◌≡◌, ℕ, ◌+◌, ◌&&◌, ◌||◌, Bool, true, false, cond, Some, List, [], ◌∷◌, take, map, refl, sym, ap, ◌∙◌, subst}
-use Rattle.std.specs.Prelude.{not, IsTrue, ◌==◌, slice_get}
+use Rattle.std.proofs.Common.{◌≡◌, ℕ, ◌+◌, ◌&&◌, ◌||◌, Bool, true, false, cond, Some, List, [], ◌∷◌, take, map, refl, sym, ap, ◌∙◌}
+use Rattle.std.specs.Prelude.{not, ◌==◌, slice_get}
 use Rattle.std.specs.List.{list_any}
-use Rattle.std.specs.Bool.{Decides}
-use Rattle.std.specs.Ordering.{nat_cmp, is_eq, eq_by_cmp}
-use Rattle.std.specs.declared.cmp.Ordering.{Ordering}
-use Rattle.std.specs.declared.cmp.Ordering.TheVariants.{Less, Equal, Greater}
-use Rattle.std.specs.Cmp.{unsigned_ties, both_tied, Equal-is}
-use Rattle.std.specs.Cmp.Lexicographic.{slice_cmp, texts_ties, pointwise}
-use Rattle.std.specs.BTreeSet.{BTreeSet, Updates, contains}
+use Rattle.std.specs.Ordering.{nat_cmp, is_eq}
+use Rattle.std.specs.Cmp.{unsigned_ties, both_tied}
+use Rattle.std.specs.Cmp.Lexicographic.{slice_cmp, texts_ties}
+use Rattle.std.specs.BTreeSet.{BTreeSet, Updates}
 use Rattle.std.proofs.lemmas.Bool.Decides.{same_from_decides, Decides-like}
 use Rattle.model_kit.specs.declared.atom.GroundAtom.{GroundAtom}
 use Rattle.model_kit.specs.declared.atom.SchemaAtom.{SchemaAtom}
@@ -16,7 +13,7 @@ use Rattle.model_kit.specs.declared.values.FunctionTerm.{FunctionTerm}
 use Rattle.model_kit.specs.Same.{same_numbers, same_atom}
 use Rattle.model_kit.specs.Runs.{instance}
 use Rattle.model_kit.specs.Judging.{atom_cmp, term_cmp, has}
-use Rattle.model_kit.proofs.Alike.{same_atom-decides, same_numbers-decides}
+use Rattle.model_kit.proofs.Alike.{same_atom-decides}
 use Rattle.model_kit.proofs.Loops.{list_any_item}
 
 -- a test of the images is a test of the items

@@ -1,11 +1,10 @@
 -- One step by the definitions, from what the code knows of it: the lists of a schema say what an action needs, adds and deletes.
-use Rattle.std.proofs.Common.{◌≡◌, ℕ, ◌+◌, ◌<◌, ◌&&◌, ◌||◌, zero, suc, Bool, true, false, List, [], ◌∷◌, length, get_or, map, Option, Some, None, refl, sym, ap, subst, ◌∙◌, arith, ⊎_elim, inl, inr}
-use Rattle.std.specs.Prelude.{◌≢◌, ◌↔◌, ◌⊎◌, not, IsTrue, All, Contains, slice_get, is_some, IsSome, IsNone}
+use Rattle.std.proofs.Common.{◌≡◌, ◌&&◌, zero, suc, Bool, true, false, List, [], ◌∷◌, map, Some, refl, sym, ap, subst, ◌∙◌, arith, ⊎_elim, inl, inr}
+use Rattle.std.specs.Prelude.{◌↔◌, not, All, Contains, slice_get}
 use Rattle.std.specs.Bool.{Decides}
 use Rattle.std.specs.List.{list_any}
 use Rattle.std.specs.Option.{option_map_or}
-use Rattle.std.proofs.lemmas.Bool.{true≢false, cases_Bool, or_cases, or_left, or_right, and_parts, and_from, not-true, not_from_false}
-use Rattle.std.proofs.lemmas.Option.{slice_get_within, get_or_from_slice_get, slice_get-get_or}
+use Rattle.std.proofs.lemmas.Bool.{true≢false, or_cases, or_left, or_right, and_parts, and_from, not-true, not_from_false}
 use Rattle.std.proofs.lemmas.List.Elements.{All-contains}
 use Rattle.std.specs.BTreeSet.{BTreeSet}
 use Rattle.model_kit.specs.declared.vocabulary.Vocabulary.{Vocabulary}
@@ -15,8 +14,8 @@ use Rattle.model_kit.specs.declared.action.GroundAction.{GroundAction}
 use Rattle.model_kit.specs.declared.model.Model.{Model}
 use Rattle.model_kit.specs.declared.model.Schema.{Schema}
 use Rattle.model_kit.specs.Same.{same_atom, same_schema_atom}
-use Rattle.model_kit.specs.Places.{Pre, Add, Del, meaning, schema_has}
-use Rattle.model_kit.specs.Runs.{State, instance, cost_of, Needs, Adds, Deletes, Applies, After}
+use Rattle.model_kit.specs.Places.{meaning, schema_has}
+use Rattle.model_kit.specs.Runs.{instance, Needs, Adds, Deletes, After}
 use Rattle.model_kit.specs.Judgement.{IsFirstPrinted, Lacks}
 use Rattle.model_kit.specs.Judging.{has, StateOf, IsMissing, Changes}
 use Rattle.model_kit.proofs.Alike.{same_atom-decides, same_schema_atom-decides}

@@ -1,19 +1,19 @@
 -- What is of a type is of each type above it, and an atom of a schema fits the vocabulary with an action's objects put in.
-use Rattle.std.proofs.Common.{◌≡◌, ℕ, ◌+◌, ◌-◌, ◌<◌, ◌≤◌, ◌&&◌, zero, suc, Bool, true, false, List, [], ◌∷◌, length, get_or, map, Option, Some, None, refl, sym, ap, subst, ◌∙◌, arith, zero-add, ⊎_elim}
-use Rattle.std.specs.Prelude.{◌==◌, IsTrue, slice_get, slice_index}
+use Rattle.std.proofs.Common.{◌≡◌, ℕ, ◌+◌, ◌-◌, ◌<◌, ◌≤◌, zero, suc, Bool, true, false, List, [], ◌∷◌, length, get_or, map, Some, refl, sym, ap, subst, ◌∙◌, arith, zero-add, ⊎_elim}
+use Rattle.std.specs.Prelude.{◌==◌, ◌≢◌, slice_get, slice_index}
 use Rattle.std.specs.List.{list_any, range_with_len}
 use Rattle.std.specs.Option.{option_map_or}
 use Rattle.std.specs.Cmp.{first_so, second_so}
-use Rattle.std.proofs.lemmas.Bool.{true≢false, and_parts, and_from, or_cases, or_left, or_right, eqb-true, eq-eqb, cases_lt}
+use Rattle.std.proofs.lemmas.Bool.{true≢false, and_parts, and_from, or_cases, eqb-true, eq-eqb, ne_eqb, cases_lt, cases_eq, false_from_ne_true}
 use Rattle.std.proofs.lemmas.List.FromFn.{get_or-range_with_len, length-range_with_len}
 use Rattle.std.proofs.lemmas.List.Folds.{list_any_at}
+use Rattle.std.specs.Cmp.Lexicographic.{pointwise}
 use Rattle.model_kit.specs.declared.vocabulary.Vocabulary.{Vocabulary}
 use Rattle.model_kit.specs.declared.vocabulary.Signature.{Signature}
-use Rattle.model_kit.specs.declared.atom.SchemaAtom.{SchemaAtom}
 use Rattle.model_kit.specs.declared.atom.Term.{Term}
 use Rattle.model_kit.specs.declared.atom.Term.TheVariants.{Param, Object}
 use Rattle.model_kit.specs.Types.{parent, ancestor, is_of_type}
-use Rattle.model_kit.specs.Vocabulary.{is_object_of, is_term_of, do_fit, fits_signature}
+use Rattle.model_kit.specs.Vocabulary.{is_object_of, is_term_of, fits_signature}
 use Rattle.model_kit.specs.Runs.{object_of}
 use Rattle.model_kit.proofs.Loops.{All_item}
 use Rattle.model_kit.proofs.WordFacts.{TypeFacts, type_listed, facts_of_words}
@@ -46,6 +46,42 @@ module _ (types : List (List ℕ × ℕ)) where
 
   pub from_steps_up : (type above n : ℕ) → n ≤ length types → ancestor types n type ≡ above → is_of_type types type above ≡ true
   from_steps_up type above n le is = any_below (λ k. ancestor types k type == above) (suc (length types)) n (omega arith) (eq-eqb (ancestor types n type) above is)
+
+  -- what is known after some parents up
+  pub record Climbed (type above steps current : ℕ) : Type 0 where
+    pub is : current ≡ ancestor types steps type
+    pub passed : (k : ℕ) → k < steps → ancestor types k type ≢ above
+
+  pub climbed_start : (type above : ℕ) → Climbed type above 0 type
+  climbed_start type above = record { is = refl; passed = λ k lt. absurd (omega arith) }
+
+  pub climbed_more : (type above steps current next : ℕ) → Climbed type above steps current → current ≢ above → next ≡ parent types current → Climbed type above (steps + 1) next
+  climbed_more type above steps current next climbed other is = record {
+    is = is ∙ ap (parent types) climbed.is ∙ sym (ap (λ n. ancestor types n type) grows);
+    passed = λ k lt. ⊎_elim (λ before. climbed.passed k before) (λ at. let here : k ≡ steps = omega arith in λ same. other (climbed.is ∙ ap (λ n. ancestor types n type) (sym here) ∙ same)) (cases_lt k steps);
+  }
+    where
+      grows : steps + 1 ≡ suc steps
+      grows = omega arith
+
+  -- the type above stands here
+  pub climbed_there : (type above steps current : ℕ) → Climbed type above steps current → steps ≤ length types → current ≡ above → is_of_type types type above ≡ true
+  climbed_there type above steps current climbed le same = from_steps_up type above steps le (sym climbed.is ∙ same)
+
+  -- it stands nowhere on the way
+  pub climbed_past : (type above steps current : ℕ) → Climbed type above steps current → length types ≤ steps → current ≢ above → is_of_type types type above ≡ false
+  climbed_past type above steps current climbed all other =
+      false_from_ne_true (is_of_type types type above) (λ e.
+          let at = steps_up type above e in
+          ⊎_elim (λ before. climbed.passed at.0 before at.2) (λ not_before. let here : at.0 ≡ steps = omega (arith, at.1, not_before) in other (climbed.is ∙ ap (λ n. ancestor types n type) (sym here) ∙ at.2)) (cases_lt at.0 steps))
+
+  -- at the last type of the way
+  pub climbed_end : (type above steps current : ℕ) → Climbed type above steps current → length types ≤ steps → steps ≤ length types → (current == above) ≡ is_of_type types type above
+  climbed_end type above steps current climbed all le =
+      ⊎_elim
+      (λ same. eq-eqb current above same ∙ sym (climbed_there type above steps current climbed le same))
+      (λ other. ne_eqb current above other ∙ sym (climbed_past type above steps current climbed all other))
+      (cases_eq current above)
 
   module _ (facts : TypeFacts types) where
     top_parent : parent types 0 ≡ 0
@@ -83,15 +119,15 @@ pub entry_from : {X : Type 0} (test : X → Bool) (xs : List X) (n : ℕ) (x : X
 entry_from test xs n x at passes = ap (λ o. option_map_or test o false) at ∙ passes
 
 -- the argument at a place is of the type at that place
-pub fits_at : {X : Type 0} (is_of : X → ℕ → Bool) (xs : List X) (types : List ℕ) → do_fit is_of xs types ≡ true → (i type : ℕ) (d : X) → slice_get types i ≡ Some type → is_of (get_or xs i d) type ≡ true
+pub fits_at : {X : Type 0} (is_of : X → ℕ → Bool) (xs : List X) (types : List ℕ) → pointwise is_of xs types ≡ true → (i type : ℕ) (d : X) → slice_get types i ≡ Some type → is_of (get_or xs i d) type ≡ true
 fits_at is_of [] [] fit i type d at = absurd (cc)
 fits_at is_of [] (t ∷ types) fit i type d at = absurd (true≢false (sym fit))
 fits_at is_of (x ∷ xs) [] fit i type d at = absurd (cc)
 fits_at is_of (x ∷ xs) (t ∷ types) fit zero type d at =
-    let same : t ≡ type = cc in subst (λ s. is_of x s ≡ true) same (first_so (is_of x t) (do_fit is_of xs types) fit)
-fits_at is_of (x ∷ xs) (t ∷ types) fit (suc i) type d at = fits_at is_of xs types (second_so (is_of x t) (do_fit is_of xs types) fit) i type d at
+    let same : t ≡ type = cc in subst (λ s. is_of x s ≡ true) same (first_so (is_of x t) (pointwise is_of xs types) fit)
+fits_at is_of (x ∷ xs) (t ∷ types) fit (suc i) type d at = fits_at is_of xs types (second_so (is_of x t) (pointwise is_of xs types) fit) i type d at
 
-module _ (words : Vocabulary) (params objects : List ℕ) (given : do_fit (is_object_of words) objects params ≡ true) where
+module _ (words : Vocabulary) (params objects : List ℕ) (given : pointwise (is_object_of words) objects params ≡ true) where
   term_fits : (term : Term) (type : ℕ) → is_term_of words params term type ≡ true → is_object_of words (object_of objects term) type ≡ true
   term_fits (Object object) type fit = fit
   term_fits (Param i) type fit =
@@ -103,17 +139,17 @@ module _ (words : Vocabulary) (params objects : List ℕ) (given : do_fit (is_ob
       (is_of_type-trans words.types facts.types_kept entry.0.1 declared.0 type
           (All_item words.objects (slice_index objects i) entry.0 entry.1 (λ e. e.1 < length words.types) (type_listed words.types words.objects facts.objects_kept)) entry.2 declared.2)
 
-  pub args_fit : (args : List Term) (types : List ℕ) → do_fit (is_term_of words params) args types ≡ true → do_fit (is_object_of words) (map (object_of objects) args) types ≡ true
+  pub args_fit : (args : List Term) (types : List ℕ) → pointwise (is_term_of words params) args types ≡ true → pointwise (is_object_of words) (map (object_of objects) args) types ≡ true
   args_fit [] [] fit = refl
   args_fit [] (t ∷ types) fit = absurd (true≢false (sym fit))
   args_fit (a ∷ args) [] fit = absurd (true≢false (sym fit))
   args_fit (a ∷ args) (t ∷ types) fit =
-      let parts = and_parts (is_term_of words params a t) (do_fit (is_term_of words params) args types) fit in
-      and_from (is_object_of words (object_of objects a) t) (do_fit (is_object_of words) (map (object_of objects) args) types) (term_fits a t parts.0) (args_fit args types parts.1)
+      let parts = and_parts (is_term_of words params a t) (pointwise (is_term_of words params) args types) fit in
+      and_from (is_object_of words (object_of objects a) t) (pointwise (is_object_of words) (map (object_of objects) args) types) (term_fits a t parts.0) (args_fit args types parts.1)
 
   -- a predicate or function with terms of the schema fits it with the objects put in
   pub instance_fits : (signatures : List Signature) (n : ℕ) (args : List Term) → fits_signature (is_term_of words params) signatures n args ≡ true
       → fits_signature (is_object_of words) signatures n (map (object_of objects) args) ≡ true
   instance_fits signatures n args fit =
-      let at = entry_passes (λ s. do_fit (is_term_of words params) args s.params) signatures n fit in
-      entry_from (λ s. do_fit (is_object_of words) (map (object_of objects) args) s.params) signatures n at.0 at.1 (args_fit args at.0.params at.2)
+      let at = entry_passes (λ s. pointwise (is_term_of words params) args s.params) signatures n fit in
+      entry_from (λ s. pointwise (is_object_of words) (map (object_of objects) args) s.params) signatures n at.0 at.1 (args_fit args at.0.params at.2)

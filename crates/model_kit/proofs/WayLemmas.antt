@@ -1,10 +1,10 @@
 -- In a graph with finitely many states it is decided whether some way of any length reaches a goal below a bound.
 -- A way that comes back to a state could have begun there, so once a state is entered it need not be entered again: the states that may still be entered grow fewer.
-use Rattle.std.proofs.Common.{◌≡◌, ℕ, ◌+◌, ◌-◌, ◌<◌, ◌≤◌, zero, suc, Bool, true, false, cond, List, [], ◌∷◌, length, filter, Option, Some, None, refl, sym, ap, subst, ◌∙◌, arith, ⊎_elim, inl, inr}
-use Rattle.std.specs.Prelude.{◌⊎◌, ◌≢◌, not, Contains}
+use Rattle.std.proofs.Common.{◌≡◌, ℕ, ◌-◌, ◌<◌, ◌≤◌, zero, suc, Bool, true, false, cond, List, [], ◌∷◌, length, filter, Option, Some, None, refl, sym, ap, subst, ◌∙◌, arith, ⊎_elim, inl, inr}
+use Rattle.std.specs.Prelude.{◌⊎◌, not, Contains}
 use Rattle.std.specs.Bool.{Decides}
 use Rattle.std.specs.List.{list_any}
-use Rattle.std.proofs.lemmas.Bool.{true≢false, cases_Bool, cases_lt, not_from_true, not_from_false, not-true}
+use Rattle.std.proofs.lemmas.Bool.{true≢false, cases_Bool, cases_lt, not_from_true, not_from_false}
 use Rattle.model_kit.proofs.StepLemmas.{listed_from_any, any_from_listed}
 use Rattle.model_kit.proofs.FirstLemmas.{cons_cases, cons_later}
 

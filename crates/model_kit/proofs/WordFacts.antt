@@ -1,16 +1,16 @@
 -- The facts of vocabularies, each by its name, and how to show them of new lists.
-use Rattle.std.proofs.Common.{◌≡◌, ℕ, ◌<◌, ◌&&◌, Bool, true, false, List, [], ◌∷◌, length, get_or, Option, Some, None, refl, sym, ap, subst, ◌∙◌, arith, zero-add}
-use Rattle.std.specs.Prelude.{not, ◌==◌, nat_lt, ◌≢◌, AllPairs, All, IsTrue, codes, slice_get}
+use Rattle.std.proofs.Common.{◌≡◌, ℕ, ◌<◌, Bool, true, List, [], ◌∷◌, length, Option, Some, sym, ap, subst, ◌∙◌, zero-add}
+use Rattle.std.specs.Prelude.{◌==◌, nat_lt, ◌≢◌, AllPairs, All, IsTrue, codes, slice_get}
 use Rattle.std.specs.Bool.{Decides}
 use Rattle.std.specs.List.{list_all, range_with_len}
 use Rattle.std.specs.Option.{option_map_or}
-use Rattle.std.proofs.lemmas.Bool.{true≢false, and_parts, and_from, not-true}
+use Rattle.std.proofs.lemmas.Bool.{true≢false, and_parts, and_from}
 use Rattle.std.proofs.lemmas.Bool.Decides.{Decides-ltb, Decides-eqb, Decides-not}
 use Rattle.std.proofs.lemmas.List.FromFn.{get_or-range_with_len, length-range_with_len}
 use Rattle.std.proofs.lemmas.List.Elements.{All-weaker}
 use Rattle.model_kit.specs.declared.vocabulary.Vocabulary.{Vocabulary}
 use Rattle.model_kit.specs.declared.vocabulary.Signature.{Signature}
-use Rattle.model_kit.specs.Names.{is_name, are_entries}
+use Rattle.model_kit.specs.Names.{is_name}
 use Rattle.model_kit.specs.Same.{same_numbers}
 use Rattle.model_kit.specs.Types.{is_of_type}
 use Rattle.model_kit.specs.Words.{is_typed, same_name, are_typed, is_first, are_types, is_signature, same_word, are_signatures, is_no_total, is_vocabulary}

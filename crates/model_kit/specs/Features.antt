@@ -1,5 +1,6 @@
 -- The facts that every model has: what it lists fits its vocabulary, and no feature is listed twice.
-use Rattle.std.specs.Prelude.{ℕ, ◌==◌, ◌&&◌, nat_lt, Bool, true, false, List, [], ◌∷◌, length}
+use Rattle.std.specs.Prelude.{ℕ, ◌==◌, ◌&&◌, nat_lt, Bool, true, List, length}
+use Rattle.std.specs.Cmp.Lexicographic.{pointwise}
 use Rattle.model_kit.specs.declared.vocabulary.Vocabulary.{Vocabulary}
 use Rattle.model_kit.specs.declared.vocabulary.Signature.{Signature}
 use Rattle.model_kit.specs.declared.atom.GroundAtom.{GroundAtom}
@@ -32,13 +33,6 @@ is_schema words schema action =
     && are_schema_atoms words action.params schema.del
     && is_cost words action.params schema.cost
 
--- one schema for each action, in the order of the actions
-abbrev pub are_schemas : Vocabulary → List Schema → List Signature → Bool
-are_schemas words [] [] = true
-are_schemas words [] (action ∷ actions) = false
-are_schemas words (schema ∷ schemas) [] = false
-are_schemas words (schema ∷ schemas) (action ∷ actions) = is_schema words schema action && are_schemas words schemas actions
-
 -- a function with objects that fit its parameters, and a number
 abbrev pub is_value : Vocabulary → ℕ × List ℕ × ℕ → Bool
 is_value words v = fits_signature (is_object_of words) words.functions v.0 v.1
@@ -51,11 +45,11 @@ same_key v w = (v.0 == w.0) && same_numbers v.1 w.1
 abbrev pub is_action : Vocabulary → ℕ → Bool
 is_action words action = nat_lt action (length words.actions)
 
--- the lists are those of a model: initial facts, goal facts, schemas, function values and unknown schemas
+-- the lists are those of a model: initial facts, goal facts, one schema for each action in their order, function values and unknown actions
 abbrev pub is_model : Vocabulary → List GroundAtom → List GroundAtom → List Schema → List (ℕ × List ℕ × ℕ) → List ℕ → Bool
 is_model words init goal schemas values unknown =
     are_ground_atoms words init
     && are_ground_atoms words goal
-    && are_schemas words schemas words.actions
+    && pointwise (is_schema words) schemas words.actions
     && are_entries (is_value words) same_key values
     && are_entries (is_action words) ◌==◌ unknown

@@ -15,3 +15,4 @@ pub mod Pairs
 pub mod Laws
 pub mod Judgement
 pub mod Judging
+pub mod Checked

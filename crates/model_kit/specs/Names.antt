@@ -14,10 +14,14 @@ is_capital b = nat_le 65 b && nat_le b 90
 abbrev pub is_first_byte : ℕ → Bool
 is_first_byte b = (nat_le 48 b && nat_le b 57) || (nat_le 97 b && nat_le b 122) || (b == 95)
 
+-- a byte of words that is no capital
+abbrev pub is_later_byte : ℕ → Bool
+is_later_byte b = is_word_byte b && not (is_capital b)
+
 -- a name in lower case
 abbrev pub is_name : List ℕ → Bool
 is_name [] = false
-is_name (b ∷ bs) = is_first_byte b && list_all (λ c. is_word_byte c && not (is_capital c)) bs
+is_name (b ∷ bs) = is_first_byte b && list_all is_later_byte bs
 
 -- no entry is the same as a later one
 abbrev pub are_distinct : {X : Type 0} → (X → X → Bool) → List X → Bool

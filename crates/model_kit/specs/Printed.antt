@@ -1,5 +1,5 @@
 -- The printed forms of atoms and terms, by which places of one kind are ordered.
-use Rattle.std.specs.Prelude.{ℕ, ◌+◌, map, List, [], ◌∷◌, ◌++◌, codes, decimal, flat_map, slice_get}
+use Rattle.std.specs.Prelude.{ℕ, ◌+◌, map, List, [], ◌++◌, codes, decimal, flat_map, slice_get}
 use Rattle.std.specs.Option.{option_map_or}
 use Rattle.model_kit.specs.declared.vocabulary.Vocabulary.{Vocabulary}
 use Rattle.model_kit.specs.declared.vocabulary.Signature.{Signature}

@@ -1,6 +1,7 @@
 -- What fits a vocabulary: ground atoms, ground actions, and the terms of action schemas (PDDL with typing).
-use Rattle.std.specs.Prelude.{ℕ, ◌&&◌, Bool, true, false, IsTrue, List, [], ◌∷◌, slice_get}
+use Rattle.std.specs.Prelude.{ℕ, Bool, false, IsTrue, List, slice_get}
 use Rattle.std.specs.Option.{option_map_or}
+use Rattle.std.specs.Cmp.Lexicographic.{pointwise}
 use Rattle.model_kit.specs.declared.vocabulary.Vocabulary.{Vocabulary}
 use Rattle.model_kit.specs.declared.vocabulary.Signature.{Signature}
 use Rattle.model_kit.specs.declared.atom.GroundAtom.{GroundAtom}
@@ -19,16 +20,9 @@ abbrev pub is_term_of : Vocabulary → List ℕ → Term → ℕ → Bool
 is_term_of words params (Param i) type = option_map_or (λ declared. is_of_type words.types declared type) (slice_get params i) false
 is_term_of words params (Object object) type = is_object_of words object type
 
--- the arguments are as many as the types, and each is of its type
-abbrev pub do_fit : {X : Type 0} → (X → ℕ → Bool) → List X → List ℕ → Bool
-do_fit is_of [] [] = true
-do_fit is_of [] (type ∷ types) = false
-do_fit is_of (x ∷ xs) [] = false
-do_fit is_of (x ∷ xs) (type ∷ types) = is_of x type && do_fit is_of xs types
-
--- the number is that of a signature, and the arguments fit its parameters
+-- the number is that of a signature, and the arguments are as many as its parameters and of their types
 abbrev pub fits_signature : {X : Type 0} → (X → ℕ → Bool) → List Signature → ℕ → List X → Bool
-fits_signature is_of signatures n args = option_map_or (λ s. do_fit is_of args s.params) (slice_get signatures n) false
+fits_signature is_of signatures n args = option_map_or (λ s. pointwise is_of args s.params) (slice_get signatures n) false
 
 -- a predicate with objects that fit its parameters
 abbrev pub is_ground_atom : Vocabulary → GroundAtom → Bool

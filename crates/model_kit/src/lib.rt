@@ -3,6 +3,9 @@
 
 mod action;
 mod atom;
+mod checking;
+mod entries;
+mod fitting;
 mod judging;
 mod laws;
 mod model;
