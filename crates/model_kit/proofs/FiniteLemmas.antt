@@ -36,7 +36,7 @@ pub record IsFinite (m : Meaning) : Type 0 where
   pub add_listed : (i : ℕ) (f : SchemaAtom) → Has m (Add i f) → Contains (adds i) f
   pub del_listed : (i : ℕ) (f : SchemaAtom) → Has m (Del i f) → Contains (dels i) f
 
-any_says : {X : Type 0} (p : X → Bool) (xs : List X) → list_any p xs ≡ true → (x : X) × (p x ≡ true)
+pub any_says : {X : Type 0} (p : X → Bool) (xs : List X) → list_any p xs ≡ true → (x : X) × (p x ≡ true)
 any_says p [] e = absurd (true≢false (sym e))
 any_says p (x ∷ xs) e = ⊎_elim (λ here. (x, here)) (λ later. any_says p xs later) (or_cases (p x) (list_any p xs) e)
 
@@ -47,10 +47,10 @@ any_from p (y ∷ xs) x (suc k, lt, is) e = or_right (p y) (list_any p xs) (any_
 
 -- each listed thing that is on passes
 module _ {X : Type 0} (on passes : X → Bool) where
-  abbrev each_on : List X → Bool
+  abbrev pub each_on : List X → Bool
   each_on xs = list_all (λ x. not (on x) || passes x) xs
 
-  each_on_says : (xs : List X) → each_on xs ≡ true → (x : X) → Contains xs x → on x ≡ true → passes x ≡ true
+  pub each_on_says : (xs : List X) → each_on xs ≡ true → (x : X) → Contains xs x → on x ≡ true → passes x ≡ true
   each_on_says xs e x at is_on_x =
       let here : (not (on x) || passes x) ≡ true = All-contains (λ y. (not (on y) || passes y) ≡ true) xs x ((all_decides (λ y. not (on y) || passes y) (λ y. (not (on y) || passes y) ≡ true) (λ y. (λ h. h, λ h. h)) xs).0 e) at in
       ⊎_elim (λ off. absurd (true≢false (sym is_on_x ∙ not-true (on x) off))) (λ ok. ok) (or_cases (not (on x)) (passes x) here)
@@ -97,29 +97,29 @@ flag_listed (x ∷ xs) (b ∷ bs) a e =
 
 module _ (words : Vocabulary) (m : Meaning) (fin : IsFinite m) where
   -- the atoms that can ever be true
-  abbrev atoms : List GroundAtom
+  abbrev pub atoms : List GroundAtom
   atoms = fin.facts ++ flat_map (λ action. map (instance action.objects) (fin.adds action.schema)) (all_actions words)
 
-  abbrev holds : List Bool → GroundAtom → Bool
+  abbrev pub holds : List Bool → GroundAtom → Bool
   holds flags a = flag_of atoms flags a
 
   -- the flags say the state
-  abbrev Mirrors : State → List Bool → Type 0
+  abbrev pub Mirrors : State → List Bool → Type 0
   Mirrors s flags = Alike s (λ a. IsTrue (holds flags a))
 
-  abbrev start : List Bool
+  abbrev pub start : List Bool
   start = map (λ a. is_on (m (Init a))) atoms
 
-  start_mirrors : Mirrors (Initial m) start
+  pub start_mirrors : Mirrors (Initial m) start
   start_mirrors a =
       let decided = flag_if_listed (λ b. is_on (m (Init b))) atoms (λ b on. Contains-append_left fin.facts _ b (fin.init_listed b on)) a in (decided.1, decided.0)
 
   -- ---- the goal
 
-  abbrev at_goal : List Bool → Bool
+  abbrev pub at_goal : List Bool → Bool
   at_goal flags = each_on (λ a. is_on (m (Goal a))) (holds flags) fin.goals
 
-  goal_says : (s : State) (flags : List Bool) → Mirrors s flags → Decides (at_goal flags) (IsGoal m s)
+  pub goal_says : (s : State) (flags : List Bool) → Mirrors s flags → Decides (at_goal flags) (IsGoal m s)
   goal_says s flags mirrors = (
     λ e a wanted. (mirrors a).1 (each_on_says (λ b. is_on (m (Goal b))) (holds flags) fin.goals e a (fin.goal_listed a wanted) wanted),
     λ goal. each_on_from (λ b. is_on (m (Goal b))) (holds flags) fin.goals (λ a wanted. (mirrors a).0 (goal a wanted)),
@@ -153,10 +153,10 @@ module _ (words : Vocabulary) (m : Meaning) (fin : IsFinite m) where
   abbrev after : List Bool → GroundAction → GroundAtom → Bool
   after flags action a = (holds flags a && not (deletes_it action a)) || adds_it action a
 
-  abbrev next : List Bool → GroundAction → List Bool
+  abbrev pub next : List Bool → GroundAction → List Bool
   next flags action = map (after flags action) atoms
 
-  abbrev applies : List Bool → GroundAction → Bool
+  abbrev pub applies : List Bool → GroundAction → Bool
   applies flags action = is_ground_action words action && (is_some (cost_of m action) && met flags action)
 
   abbrev step : List Bool → GroundAction → Option (List Bool × ℕ)
@@ -170,13 +170,13 @@ module _ (words : Vocabulary) (m : Meaning) (fin : IsFinite m) where
         (λ f on. (mirrors (instance action.objects f)).0 (there (instance action.objects f) (f, on, refl))),
   )
 
-  applies_says : (s : State) (flags : List Bool) (action : GroundAction) → Mirrors s flags → applies flags action ≡ true → IsGroundAction words action × Applies m s action
+  pub applies_says : (s : State) (flags : List Bool) (action : GroundAction) → Mirrors s flags → applies flags action ≡ true → IsGroundAction words action × Applies m s action
   applies_says s flags action mirrors e =
       let parts = and_parts (is_ground_action words action) (is_some (cost_of m action) && met flags action) e in
       let rest = and_parts (is_some (cost_of m action)) (met flags action) parts.1 in
       (parts.0, record { priced = rest.0; met = (met_says s flags action mirrors).0 rest.1 })
 
-  applies_from : (s : State) (flags : List Bool) (action : GroundAction) → Mirrors s flags → IsGroundAction words action → Applies m s action → applies flags action ≡ true
+  pub applies_from : (s : State) (flags : List Bool) (action : GroundAction) → Mirrors s flags → IsGroundAction words action → Applies m s action → applies flags action ≡ true
   applies_from s flags action mirrors fits app =
       and_from (is_ground_action words action) (is_some (cost_of m action) && met flags action) fits
       (and_from (is_some (cost_of m action)) (met flags action) app.priced ((met_says s flags action mirrors).1 app.met))
@@ -194,7 +194,7 @@ module _ (words : Vocabulary) (m : Meaning) (fin : IsFinite m) where
       (or_cases (holds flags a && not (deletes_it action a)) (adds_it action a) e)
 
   -- the flags after an action say the successor
-  next_mirrors : (s : State) (flags : List Bool) (action : GroundAction) → Mirrors s flags → IsGroundAction words action → Mirrors (After m s action) (next flags action)
+  pub next_mirrors : (s : State) (flags : List Bool) (action : GroundAction) → Mirrors s flags → IsGroundAction words action → Mirrors (After m s action) (next flags action)
   next_mirrors s flags action mirrors fits a =
       let decided = flag_if_listed (after flags action) atoms (after_listed flags action fits) a in
       let adds = makes_decides Add (fin.adds action.schema) action (fin.add_listed action.schema) a in

@@ -27,50 +27,7 @@ use Rattle.model_kit.proofs.OrderLemmas.{Within, before_one_way, before_no_heavi
 use Rattle.model_kit.proofs.FirstLemmas.{first_of_known, each_known}
 use Rattle.model_kit.proofs.PlaceLemmas.{all_of, all_has, all_within, patched_all}
 use Rattle.model_kit.proofs.FiniteLemmas.{IsFinite, cheapest_known}
-
--- ---- a model after some differences has finitely many features
-
--- the atoms in one list of a schema
-abbrev listed_atoms : (Schema → List SchemaAtom) → Model → ℕ → List SchemaAtom
-listed_atoms part model i = option_map_or part (slice_get model.schemas i) []
-
-has_listed : (part : Schema → List SchemaAtom) (model : Model) (i : ℕ) (f : SchemaAtom) → schema_has part model i f ≡ true → Contains (listed_atoms part model i) f
-has_listed part model i f e = by (slice_get model.schemas i) e
-  where
-    by : (o : Option Schema) → option_map_or (λ schema. list_any (same_schema_atom f) (part schema)) o false ≡ true → Contains (option_map_or part o []) f
-    by None on = absurd (true≢false (sym on))
-    by (Some schema) on = listed_from_any same_schema_atom same_schema_atom-decides f (part schema) on
-
-module _ (planner user : Model) (places : List Place) (told : set.FinSet nat_cmp) where
-  abbrev after_told : Meaning
-  after_told = patched (meaning planner) (meaning user) places told
-
-  -- what is on after the differences is on in one of the models
-  on_in_one : (p : Place) → Has after_told p → Has (meaning planner) p ⊎ Has (meaning user) p
-  on_in_one p on = by (is_told 1 places (set.contains told) p) on
-    where
-      by : (b : Bool) → IsTrue (is_on (cond b (meaning planner p) (meaning user p))) → Has (meaning planner) p ⊎ Has (meaning user) p
-      by true e = inl e
-      by false e = inr e
-
-  in_one : {X : Type 0} (p : Place) (x : X) (xs ys : List X) → (Has (meaning planner) p → Contains xs x) → (Has (meaning user) p → Contains ys x) → Has after_told p → Contains (xs ++ ys) x
-  in_one p x xs ys first second on = ⊎_elim (λ e. Contains-append_left xs ys x (first e)) (λ e. Contains-append_right xs ys x (second e)) (on_in_one p on)
-
-  finite_after : IsFinite after_told
-  finite_after = record {
-    facts = planner.init ++ user.init;
-    goals = planner.goal ++ user.goal;
-    pres = λ i. listed_atoms (λ s. s.pre) planner i ++ listed_atoms (λ s. s.pre) user i;
-    adds = λ i. listed_atoms (λ s. s.add) planner i ++ listed_atoms (λ s. s.add) user i;
-    dels = λ i. listed_atoms (λ s. s.del) planner i ++ listed_atoms (λ s. s.del) user i;
-    init_listed = λ a. in_one (Init a) a planner.init user.init (listed_from_any same_atom same_atom-decides a planner.init) (listed_from_any same_atom same_atom-decides a user.init);
-    goal_listed = λ a. in_one (Goal a) a planner.goal user.goal (listed_from_any same_atom same_atom-decides a planner.goal) (listed_from_any same_atom same_atom-decides a user.goal);
-    pre_listed = λ i f. in_one (Pre i f) f (listed_atoms (λ s. s.pre) planner i) (listed_atoms (λ s. s.pre) user i) (has_listed (λ s. s.pre) planner i f) (has_listed (λ s. s.pre) user i f);
-    add_listed = λ i f. in_one (Add i f) f (listed_atoms (λ s. s.add) planner i) (listed_atoms (λ s. s.add) user i) (has_listed (λ s. s.add) planner i f) (has_listed (λ s. s.add) user i f);
-    del_listed = λ i f. in_one (Del i f) f (listed_atoms (λ s. s.del) planner i) (listed_atoms (λ s. s.del) user i) (has_listed (λ s. s.del) planner i f) (has_listed (λ s. s.del) user i f);
-  }
-
--- ---- the laws
+use Rattle.model_kit.proofs.PatchedLemmas.{finite_after}
 
 module _ (words : Vocabulary) (planner user : Model) (places : List Place) (weights : List ℕ) (plan : List GroundAction)
     (posed : IsPosed (task_of words planner user places weights plan)) (ground : All (IsGroundAction words) plan) where
@@ -91,7 +48,7 @@ module _ (words : Vocabulary) (planner user : Model) (places : List Place) (weig
   to_weights told = subst (λ n. Within n told) (sym posed.weights.one_each)
 
   complete_known : (told : set.FinSet nat_cmp) → IsComplete task told ⊎ ¬ IsComplete task told
-  complete_known told = cheapest_known words (patched (meaning planner) (meaning user) places told) (finite_after planner user places told) plan ground
+  complete_known told = cheapest_known words (patched (meaning planner) (meaning user) places told) (finite_after planner user places (set.contains told)) plan ground
 
   after_whole : patched (meaning planner) (meaning user) places whole ≡ meaning planner
   after_whole = patched_all (meaning planner) (meaning user) places posed.differences.agree

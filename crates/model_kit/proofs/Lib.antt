@@ -15,6 +15,8 @@ pub mod PlaceLemmas
 pub mod WayLemmas
 pub mod ListLemmas
 pub mod FiniteLemmas
+pub mod CostLemmas
+pub mod PatchedLemmas
 pub mod LawLemmas
 pub mod PairLemmas
 pub mod FitLemmas

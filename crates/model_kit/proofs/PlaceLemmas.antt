@@ -52,12 +52,12 @@ told_if_listed k (q ∷ places) passes each p =
     pick_rest : same_place q p ≡ false → (a b c : Bool) → b ≡ c → cond (same_place q p) a b ≡ (same_place q p || c)
     pick_rest miss a b c same = ap (λ s. cond s a b) miss ∙ same ∙ sym (ap (λ s. s || c) miss)
 
-listed_place : (p : Place) (places : List Place) → list_any (λ q. same_place q p) places ≡ true → Contains places p
+pub listed_place : (p : Place) (places : List Place) → list_any (λ q. same_place q p) places ≡ true → Contains places p
 listed_place p [] e = absurd (true≢false (sym e))
 listed_place p (q ∷ places) e =
     ⊎_elim (λ here. (zero, omega arith, (same_place-decides q p).0 here)) (λ later. let at = listed_place p places later in (suc at.0, omega (arith, at.1), at.2)) (or_cases (same_place q p) (list_any (λ r. same_place r p) places) e)
 
-unlisted_place : (p : Place) (places : List Place) → list_any (λ q. same_place q p) places ≡ false → ¬ Contains places p
+pub unlisted_place : (p : Place) (places : List Place) → list_any (λ q. same_place q p) places ≡ false → ¬ Contains places p
 unlisted_place p [] e at = omega (arith, at.1)
 unlisted_place p (q ∷ places) e (zero, lt, is) = true≢false (sym ((same_place-decides q p).1 is) ∙ (or_parts (same_place q p) (list_any (λ r. same_place r p) places) e).0)
 unlisted_place p (q ∷ places) e (suc k, lt, is) = unlisted_place p places (or_parts (same_place q p) (list_any (λ r. same_place r p) places) e).1 (k, omega arith, is)

@@ -11,6 +11,7 @@ pub mod Printed
 pub mod Differences
 pub mod Runs
 pub mod Explanations
+pub mod Sentences
 pub mod Pairs
 pub mod Laws
 pub mod Judgement

@@ -1,0 +1,9 @@
+pub mod Build
+pub mod Told
+pub mod Depot
+pub mod Jump
+pub mod Belief
+pub mod Hidden
+pub mod Together
+pub mod Roads
+pub mod Kinds
