@@ -143,21 +143,21 @@ module _ (words : Vocabulary) (planner user : Model) (places : List Place) (weig
       monotonic_listed told within = (
         λ all more inside greater.
             let part = part_of (numbers count told) (numbers count more)
-                (λ q e. sym (contains_numbers count more inside q) ∙ set.is_subset-contains nat_cmp_total told more greater q (contains_numbers count told within q ∙ e)) in
+            (λ q e. sym (contains_numbers count more inside q) ∙ set.is_subset-contains nat_cmp_total told more greater q (contains_numbers count told within q ∙ e)) in
             let here = each_set_in lists (numbers count told) all more in
             ⊎_elim (λ apart. absurd (true≢false (sym part ∙ not-true (is_part (numbers count told) (numbers count more)) apart))) (λ listed. (complete_listed more inside).0 listed)
             (or_cases (not (is_part (numbers count told) (numbers count more))) (is_listed lists (numbers count more)) here),
         λ always. all_from (λ ys. not (is_part (numbers count told) ys) || is_listed lists ys) (all_lists count)
             (λ ys at.
-                let own = at_listed (is_normal count) (all_lists count) tidy.1 ys at in
-                let inside : IsWithin pair (of ys) = of_within count ys own in
-                ⊎_elim
-                (λ part. or_right (not (is_part (numbers count told) ys)) (is_listed lists ys)
-                    (ap (is_listed lists) (sym (numbers_of count ys own))
-                    ∙ (complete_listed (of ys) inside).1 (always (of ys) inside (set.contains-is_subset nat_cmp_total told (of ys)
-                        (λ q there. of_contains ys q ∙ in_whole (numbers count told) ys part q (sym (contains_numbers count told within q) ∙ there))))))
-                (λ apart. or_left (not (is_part (numbers count told) ys)) (is_listed lists ys) (not_from_false (is_part (numbers count told) ys) apart))
-                (cases_Bool (is_part (numbers count told) ys))),
+            let own = at_listed (is_normal count) (all_lists count) tidy.1 ys at in
+            let inside : IsWithin pair (of ys) = of_within count ys own in
+            ⊎_elim
+            (λ part. or_right (not (is_part (numbers count told) ys)) (is_listed lists ys)
+            (ap (is_listed lists) (sym (numbers_of count ys own))
+            ∙ (complete_listed (of ys) inside).1 (always (of ys) inside (set.contains-is_subset nat_cmp_total told (of ys)
+            (λ q there. of_contains ys q ∙ in_whole (numbers count told) ys part q (sym (contains_numbers count told within q) ∙ there))))))
+            (λ apart. or_left (not (is_part (numbers count told) ys)) (is_listed lists ys) (not_from_false (is_part (numbers count told) ys) apart))
+            (cases_Bool (is_part (numbers count told) ys))),
       )
         where
           each_set_in : (lists : List (List ℕ)) (xs : List ℕ) → greater_listed lists xs ≡ true → (more : set.FinSet nat_cmp) → (not (is_part xs (numbers count more)) || is_listed lists (numbers count more)) ≡ true
@@ -169,8 +169,8 @@ module _ (words : Vocabulary) (planner user : Model) (places : List Place) (weig
           let decided = monotonic_listed told within in
           let listed = listed_set count monotonic tidy.0 told within in
           let same : greater_listed lists (numbers count told) ≡ is_listed monotonic (numbers count told) =
-              (beq-decides (greater_listed lists (numbers count told)) (is_listed monotonic (numbers count told))).0
-              (each_set (λ xs. beq (greater_listed lists xs) (is_listed monotonic xs)) count tidy.2 told) in
+          (beq-decides (greater_listed lists (numbers count told)) (is_listed monotonic (numbers count told))).0
+          (each_set (λ xs. beq (greater_listed lists xs) (is_listed monotonic xs)) count tidy.2 told) in
           (λ always. listed.0 (sym same ∙ decided.1 always), λ at. decided.0 (same ∙ listed.1 at))
 
       pub mme_by : (even : length weights ≡ length places) (xs : List ℕ) → is_first_list pair monotonic xs ≡ true → IsMME pair (of xs)
@@ -182,7 +182,7 @@ module _ (task : Task) (P : set.FinSet nat_cmp → Type 0) (xs ys : List ℕ) (f
   pub not_first_by : is_normal (length task.places) xs ≡ true → is_normal (length task.places) ys ≡ true → same_numbers xs ys ≡ false → IsFirst task P (of ys) → ⊥
   not_first_by normal other_normal apart other =
       let differ : of ys ≢ of xs = λ same. true≢false
-          (sym ((same_numbers-decides xs ys).1 (sym (numbers_of (length task.places) xs normal) ∙ ap (numbers (length task.places)) (sym same) ∙ numbers_of (length task.places) ys other_normal)) ∙ apart) in
+      (sym ((same_numbers-decides xs ys).1 (sym (numbers_of (length task.places) xs normal) ∙ ap (numbers (length task.places)) (sym same) ∙ numbers_of (length task.places) ys other_normal)) ∙ apart) in
       before_one_way task.weights (of xs) (of ys) (first.first (of ys) other.within other.has differ) (other.first (of xs) first.within first.has (λ same. differ (sym same)))
 
 module _ (words : Vocabulary) (planner user : Model) (places : List Place) (weights : List ℕ) (plan : List GroundAction)

@@ -129,7 +129,7 @@ module _ (model : Model) where
   in_schema : (i : ℕ) (p : Place) → i < length model.schemas → Contains (of_schema model i) p → Contains (listed_places model) p
   in_schema i p lt at =
       Contains-append_right (map Init model.init) _ p (Contains-append_right (map Goal model.goal) _ p
-          (Contains-append_left (flat_map (of_schema model) (range_with_len 0 (length model.schemas))) _ p (flat_contains (of_schema model) (range_with_len 0 (length model.schemas)) i p (range_contains (length model.schemas) i lt) at)))
+      (Contains-append_left (flat_map (of_schema model) (range_with_len 0 (length model.schemas))) _ p (flat_contains (of_schema model) (range_with_len 0 (length model.schemas)) i p (range_contains (length model.schemas) i lt) at)))
 
   -- a feature that is on is listed
   off : (on : Bool) (p : Place) → (on ≡ true → Contains (listed_places model) p) → ¬ Contains (listed_places model) p → Feature on ≡ Feature false
@@ -149,30 +149,30 @@ module _ (model : Model) where
   elsewhere (Goal a) away =
       off (list_any (same_atom a) model.goal) (Goal a)
       (λ on. Contains-append_right (map Init model.init) _ (Goal a)
-          (Contains-append_left (map Goal model.goal) _ (Goal a) (map_contains Goal model.goal a (listed_from_any same_atom same_atom-decides a model.goal on)))) away
+      (Contains-append_left (map Goal model.goal) _ (Goal a) (map_contains Goal model.goal a (listed_from_any same_atom same_atom-decides a model.goal on)))) away
   elsewhere (Knows i) away =
       off (nat_lt i (length model.schemas) && not (list_any (λ unknown. unknown == i) model.unknown)) (Knows i)
       (λ on. in_schema i (Knows i) (leb-true (suc i) (length model.schemas) (and_parts (nat_lt i (length model.schemas)) _ on).0) (zero, omega arith, refl)) away
   elsewhere (Pre i f) away =
       off (schema_has (λ s. s.pre) model i f) (Pre i f)
       (part_at (λ s. s.pre) Pre
-          (λ j g at. in_rest (Knows j) (Cost j) _ (Pre j g)
-              (Contains-append_left (map (Pre j) (listed_atoms (λ s. s.pre) model j)) _ (Pre j g) (map_contains (Pre j) (listed_atoms (λ s. s.pre) model j) g at)))
-          i f) away
+      (λ j g at. in_rest (Knows j) (Cost j) _ (Pre j g)
+      (Contains-append_left (map (Pre j) (listed_atoms (λ s. s.pre) model j)) _ (Pre j g) (map_contains (Pre j) (listed_atoms (λ s. s.pre) model j) g at)))
+      i f) away
   elsewhere (Add i f) away =
       off (schema_has (λ s. s.add) model i f) (Add i f)
       (part_at (λ s. s.add) Add
-          (λ j g at. in_rest (Knows j) (Cost j) _ (Add j g)
-              (Contains-append_right (map (Pre j) (listed_atoms (λ s. s.pre) model j)) _ (Add j g)
-                  (Contains-append_left (map (Add j) (listed_atoms (λ s. s.add) model j)) _ (Add j g) (map_contains (Add j) (listed_atoms (λ s. s.add) model j) g at))))
-          i f) away
+      (λ j g at. in_rest (Knows j) (Cost j) _ (Add j g)
+      (Contains-append_right (map (Pre j) (listed_atoms (λ s. s.pre) model j)) _ (Add j g)
+      (Contains-append_left (map (Add j) (listed_atoms (λ s. s.add) model j)) _ (Add j g) (map_contains (Add j) (listed_atoms (λ s. s.add) model j) g at))))
+      i f) away
   elsewhere (Del i f) away =
       off (schema_has (λ s. s.del) model i f) (Del i f)
       (part_at (λ s. s.del) Del
-          (λ j g at. in_rest (Knows j) (Cost j) _ (Del j g)
-              (Contains-append_right (map (Pre j) (listed_atoms (λ s. s.pre) model j)) _ (Del j g)
-                  (Contains-append_right (map (Add j) (listed_atoms (λ s. s.add) model j)) _ (Del j g) (map_contains (Del j) (listed_atoms (λ s. s.del) model j) g at))))
-          i f) away
+      (λ j g at. in_rest (Knows j) (Cost j) _ (Del j g)
+      (Contains-append_right (map (Pre j) (listed_atoms (λ s. s.pre) model j)) _ (Del j g)
+      (Contains-append_right (map (Add j) (listed_atoms (λ s. s.add) model j)) _ (Del j g) (map_contains (Del j) (listed_atoms (λ s. s.del) model j) g at))))
+      i f) away
   elsewhere (Cost i) away = by (slice_get model.schemas i) refl
     where
       by : (o : Option Schema) → slice_get model.schemas i ≡ o → option_map_or (λ s. Price s.cost) o Nothing ≡ Nothing
@@ -180,9 +180,9 @@ module _ (model : Model) where
       by (Some schema) is = absurd (away (in_schema i (Cost i) (slice_get_within model.schemas i schema is) (suc zero, omega arith, refl)))
   elsewhere (Value f xs) away =
       ap Worth (unvalued f xs model.values
-          (λ v is at. away (Contains-append_right (map Init model.init) _ (Value f xs) (Contains-append_right (map Goal model.goal) _ (Value f xs)
-              (Contains-append_right (flat_map (of_schema model) (range_with_len 0 (length model.schemas))) _ (Value f xs)
-                  (subst (Contains (map (λ w. Value w.0 w.1) model.values)) is (map_contains (λ w. Value w.0 w.1) model.values v at)))))))
+      (λ v is at. away (Contains-append_right (map Init model.init) _ (Value f xs) (Contains-append_right (map Goal model.goal) _ (Value f xs)
+      (Contains-append_right (flat_map (of_schema model) (range_with_len 0 (length model.schemas))) _ (Value f xs)
+      (subst (Contains (map (λ w. Value w.0 w.1) model.values)) is (map_contains (λ w. Value w.0 w.1) model.values v at)))))))
 
 -- ---- the test
 
@@ -210,7 +210,7 @@ before_says : (words : Vocabulary) (p q : Place) → is_listed_before words p q 
 before_says words p q e =
     ⊎_elim (λ less. inl (leb-true (suc (group words p)) (group words q) less))
     (λ rest. let parts = and_parts (nat_eq (group words p) (group words q)) (is_lt (slice_cmp nat_cmp (printed words p) (printed words q))) rest in
-        inr (eqb-true (group words p) (group words q) parts.0, lt_is_less (slice_cmp nat_cmp (printed words p) (printed words q)) parts.1))
+    inr (eqb-true (group words p) (group words q) parts.0, lt_is_less (slice_cmp nat_cmp (printed words p) (printed words q)) parts.1))
     (or_cases (nat_lt (group words p) (group words q)) _ e)
 
 ordered_says : (words : Vocabulary) (places : List Place) → are_ordered words places ≡ true → AllPairs (IsListedBefore words) places

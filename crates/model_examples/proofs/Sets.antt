@@ -1,5 +1,5 @@
 -- Sets of difference numbers as the ascending lists of their numbers, for tests that compute.
-use Rattle.std.proofs.Common.{◌≡◌, ℕ, ◌+◌, ◌<◌, ◌≤◌, zero, suc, Bool, true, false, cond, List, [], ◌∷◌, ◌++◌, map, refl, sym, ap, subst, ◌∙◌, arith, ⊎_elim}
+use Rattle.std.proofs.Common.{◌≡◌, ℕ, ◌+◌, ◌<◌, ◌≤◌, zero, suc, Bool, true, false, cond, List, [], ◌∷◌, ◌++◌, length, map, refl, sym, ap, subst, ◌∙◌, arith, ⊎_elim}
 use Rattle.std.specs.Prelude.{◌||◌, ◌==◌, Contains, filter}
 use Rattle.std.specs.Bool.{Decides}
 use Rattle.std.specs.List.{list_any, list_all, range_with_len}
@@ -8,7 +8,7 @@ use Rattle.std.specs.Cmp.{nat_cmp_total}
 use Rattle.std.specs.FinSet as set
 use Rattle.std.proofs.lemmas.Bool.{true≢false, and_from, and_parts, or_cases, or_left, or_right, eqb-true, eq-eqb}
 use Rattle.std.proofs.lemmas.List.Elements.{Contains-append_left, Contains-append_right, All-contains}
-use Rattle.mre_base.specs.Before.{numbers}
+use Rattle.mre_base.specs.Before.{numbers, is_lighter, is_before}
 use Rattle.model_kit.specs.Same.{same_numbers}
 use Rattle.model_kit.proofs.Alike.{same_numbers-decides}
 use Rattle.model_kit.proofs.Distinct.{all_decides}
@@ -128,3 +128,7 @@ listed_set d lists normal told within = (
       let same : numbers d told ≡ one.0 = ap (numbers d) (sym one.2) ∙ numbers_of d one.0 (at_listed (is_normal d) lists normal one.0 one.1) in
       any_from_listed same_numbers same_numbers-decides (numbers d told) lists (subst (Contains lists) (sym same) one.1),
 )
+
+-- the order of sets is that of their lists
+pub before_by : (weights xs ys : List ℕ) → is_normal (length weights) xs ≡ true → is_normal (length weights) ys ≡ true → is_before weights (of xs) (of ys) ≡ is_lighter weights xs ys
+before_by weights xs ys one two = λ i. is_lighter weights (numbers_of (length weights) xs one i) (numbers_of (length weights) ys two i)

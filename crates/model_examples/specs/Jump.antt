@@ -2,10 +2,12 @@
 use Rattle.std.specs.Prelude.{ℕ, List, [], ◌∷◌, codes, refl}
 use Rattle.model_kit.specs.declared.vocabulary.Vocabulary.{Vocabulary}
 use Rattle.model_kit.specs.declared.model.Model.{Model}
-use Rattle.model_kit.specs.Places.{Place, Init, Pre, Cost}
+use Rattle.model_kit.specs.Places.{Place, Init, Pre, Cost, Meaning, meaning}
+use Rattle.model_kit.specs.Differences.{AreDifferences, patched}
 use Rattle.model_kit.specs.Explanations.{Task}
 use Rattle.model_kit.specs.Laws.{task_of}
 use Rattle.model_examples.specs.Build.{word, one_type, fact, facts, bare, step, plain}
+use Rattle.model_examples.specs.Told.{of}
 
 -- predicates 0 (p), 1 (r), 2 (g); actions 0 (walk), 1 (jump)
 abbrev pub words : Vocabulary
@@ -60,3 +62,11 @@ monotonic = (3 ∷ []) ∷ (1 ∷ 3 ∷ []) ∷ (2 ∷ 3 ∷ []) ∷ (1 ∷ 2 �
 
 abbrev pub ones : List ℕ
 ones = 1 ∷ 1 ∷ 1 ∷ []
+
+-- the user's model after the differences with these numbers
+abbrev pub after : List ℕ → Meaning
+after numbers = patched (meaning planner) (meaning user) places (of numbers)
+
+-- the list is that of the differences of these models
+abbrev pub AreListed : List Place → Type 0
+AreListed = AreDifferences words (meaning planner) (meaning user)

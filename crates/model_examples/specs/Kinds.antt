@@ -1,5 +1,5 @@
 -- Two models with differences of each kind, both ways.
-use Rattle.std.specs.Prelude.{ℕ, List, [], ◌∷◌, codes, refl}
+use Rattle.std.specs.Prelude.{ℕ, List, [], ◌∷◌, codes, replicate, refl}
 use Rattle.model_kit.specs.declared.vocabulary.Vocabulary.{Vocabulary}
 use Rattle.model_kit.specs.declared.model.Model.{Model}
 use Rattle.model_kit.specs.declared.model.Schema.{Schema}
@@ -65,6 +65,9 @@ places =
     ∷ Value 0 (0 ∷ []) ∷ Value 0 (1 ∷ [])
     ∷ []
 
+abbrev pub ones : List ℕ
+ones = replicate 15 1
+
 -- the plan is (rest)
 abbrev pub task : Task
-task = task_of words planner user places (1 ∷ 1 ∷ 1 ∷ 1 ∷ 1 ∷ 1 ∷ 1 ∷ 1 ∷ 1 ∷ 1 ∷ 1 ∷ 1 ∷ 1 ∷ 1 ∷ 1 ∷ []) (step 1 ∷ [])
+task = task_of words planner user places ones (step 1 ∷ [])

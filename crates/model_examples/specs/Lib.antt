@@ -7,3 +7,4 @@ pub mod Hidden
 pub mod Together
 pub mod Roads
 pub mod Kinds
+pub mod Joint

@@ -7,7 +7,8 @@ use Rattle.model_kit.specs.declared.model.CostExpr.TheVariants.{Call}
 use Rattle.model_kit.specs.declared.atom.Term.TheVariants.{Param}
 use Rattle.model_kit.specs.declared.atom.GroundAtom.{GroundAtom}
 use Rattle.model_kit.specs.declared.action.GroundAction.{GroundAction}
-use Rattle.model_kit.specs.Places.{Place, Goal, Value}
+use Rattle.model_kit.specs.Places.{Place, Goal, Value, meaning}
+use Rattle.model_kit.specs.Runs.{State, After, Initial}
 use Rattle.model_kit.specs.Explanations.{Task}
 use Rattle.model_kit.specs.Laws.{task_of}
 use Rattle.model_examples.specs.Build.{word, one_type, fact, atom, act}
@@ -75,3 +76,22 @@ task = task_of words planner user places (1 ∷ 1 ∷ 1 ∷ []) (go 0 1 ∷ go 1
 -- the sets with the goal and the value of (road a c)
 abbrev pub complete : List (List ℕ)
 complete = (1 ∷ 2 ∷ []) ∷ (1 ∷ 2 ∷ 3 ∷ []) ∷ []
+
+abbrev pub way : List GroundAction
+way = go 0 1 ∷ go 1 2 ∷ []
+
+-- the planner's model with a road from a to c that is as long as the way by b
+abbrev pub tied : Model
+tied = record {
+  words = words;
+  init = at 0 ∷ [];
+  goal = at 2 ∷ [];
+  schemas = ways;
+  values = (0, 0 ∷ 1 ∷ [], 2) ∷ (0, 1 ∷ 2 ∷ [], 3) ∷ (0, 0 ∷ 2 ∷ [], 5) ∷ [];
+  unknown = [];
+  sound = refl;
+}
+
+-- what is true after an action from the planner's initial facts
+abbrev pub after : GroundAction → State
+after action = After (meaning planner) (Initial (meaning planner)) action

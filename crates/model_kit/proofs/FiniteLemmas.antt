@@ -131,10 +131,10 @@ module _ (words : Vocabulary) (m : Meaning) (fin : IsFinite m) where
   met flags action = each_on (λ f. is_on (m (Pre action.schema f))) (λ f. holds flags (instance action.objects f)) (fin.pres action.schema)
 
   -- an action makes an atom by one of the listed atoms of its schema
-  abbrev makes : (ℕ → SchemaAtom → Place) → List SchemaAtom → GroundAction → GroundAtom → Bool
+  abbrev pub makes : (ℕ → SchemaAtom → Place) → List SchemaAtom → GroundAction → GroundAtom → Bool
   makes part fs action a = list_any (λ f. is_on (m (part action.schema f)) && same_atom (instance action.objects f) a) fs
 
-  makes_decides : (part : ℕ → SchemaAtom → Place) (fs : List SchemaAtom) (action : GroundAction) → ((f : SchemaAtom) → Has m (part action.schema f) → Contains fs f) → (a : GroundAtom)
+  pub makes_decides : (part : ℕ → SchemaAtom → Place) (fs : List SchemaAtom) (action : GroundAction) → ((f : SchemaAtom) → Has m (part action.schema f) → Contains fs f) → (a : GroundAtom)
       → Decides (makes part fs action a) ((f : SchemaAtom) × Has m (part action.schema f) × (instance action.objects f ≡ a))
   makes_decides part fs action listed a = (
     λ e. let one = any_says (λ f. is_on (m (part action.schema f)) && same_atom (instance action.objects f) a) fs e in

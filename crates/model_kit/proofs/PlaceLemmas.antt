@@ -11,7 +11,7 @@ use Rattle.model_kit.proofs.Alike.{same_place-decides}
 use Rattle.model_kit.proofs.OrderLemmas.{Within}
 
 -- the set of all numbers from 1 to d
-pub all_of : ℕ → set.FinSet nat_cmp
+abbrev pub all_of : ℕ → set.FinSet nat_cmp
 all_of d = set.from_list (range_with_len 1 d)
 
 in_range : (q a n : ℕ) → a ≤ q → q < a + n → list_any (λ y. nat_eq y q) (range_with_len a n) ≡ true
@@ -22,11 +22,9 @@ in_range q a (suc n) low high =
     (cases_order a q)
 
 pub all_has : (d q : ℕ) → 1 ≤ q → q ≤ d → set.contains (all_of d) q ≡ true
-unfolding all_of
 all_has d q low high = set.contains-from_list_nat (range_with_len 1 d) q ∙ in_range q 1 d low (omega arith)
 
 pub all_within : (d : ℕ) → Within d (all_of d)
-unfolding all_of
 all_within d q there =
     let at = some_at_least (λ y. nat_eq y q) 1 d (sym (set.contains-from_list_nat (range_with_len 1 d) q) ∙ there) in
     let same = eqb-true at.0 q at.3 in
