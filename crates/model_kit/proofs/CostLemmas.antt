@@ -107,12 +107,12 @@ module _ (words : Vocabulary) (m : Meaning) (fin : IsFinite m) (base : ℕ) (dis
             let e = each_on_says (λ g. is_on (m (Add action.schema g))) (is_far action) (fin.adds action.schema) kept_far f (fin.add_listed action.schema f on) on in
             subst (λ b. k - price action ≤ distance b) is
             (⊎_elim
-                (λ near. omega (arith, far.0, leb-true base (price action + distance (instance action.objects f)) near))
-                (λ some.
-                    let one = any_says (λ p. is_on (m (Pre action.schema p)) && nat_le (distance (instance action.objects p)) (price action + distance (instance action.objects f))) (fin.pres action.schema) some in
-                    let parts = and_parts (is_on (m (Pre action.schema one.0))) (nat_le (distance (instance action.objects one.0)) (price action + distance (instance action.objects f))) one.1 in
-                    omega (arith, far.1 (instance action.objects one.0) (app.met (instance action.objects one.0) (one.0, parts.0, refl)), leb-true (distance (instance action.objects one.0)) (price action + distance (instance action.objects f)) parts.1))
-                (or_cases (nat_le base (price action + distance (instance action.objects f))) _ e))
+            (λ near. omega (arith, far.0, leb-true base (price action + distance (instance action.objects f)) near))
+            (λ some.
+            let one = any_says (λ p. is_on (m (Pre action.schema p)) && nat_le (distance (instance action.objects p)) (price action + distance (instance action.objects f))) (fin.pres action.schema) some in
+            let parts = and_parts (is_on (m (Pre action.schema one.0))) (nat_le (distance (instance action.objects one.0)) (price action + distance (instance action.objects f))) one.1 in
+            omega (arith, far.1 (instance action.objects one.0) (app.met (instance action.objects one.0) (one.0, parts.0, refl)), leb-true (distance (instance action.objects one.0)) (price action + distance (instance action.objects f)) parts.1))
+            (or_cases (nat_le base (price action + distance (instance action.objects f))) _ e))
 
   -- a bound of the cost of each valid list
   pub is_bound-says : (k : ℕ) → is_bound k ≡ true → (other : List GroundAction) → All (IsGroundAction words) other → IsValid m other → k ≤ cost m other

@@ -59,7 +59,7 @@ module _ {X : Type 0} (on passes : X → Bool) where
   each_on_from xs each =
       (all_decides (λ y. not (on y) || passes y) (λ y. (not (on y) || passes y) ≡ true) (λ y. (λ h. h, λ h. h)) xs).1
       (λ k d lt. ⊎_elim (λ e. or_right (not (on (get_or xs k d))) (passes (get_or xs k d)) (each (get_or xs k d) e))
-          (λ e. or_left (not (on (get_or xs k d))) (passes (get_or xs k d)) (not_from_false (on (get_or xs k d)) e)) (cases_Bool (on (get_or xs k d))))
+      (λ e. or_left (not (on (get_or xs k d))) (passes (get_or xs k d)) (not_from_false (on (get_or xs k d)) e)) (cases_Bool (on (get_or xs k d))))
 
 -- the flag of an atom, by the first place at which it is listed
 abbrev flag_of : List GroundAtom → List Bool → GroundAtom → Bool
@@ -187,10 +187,10 @@ module _ (words : Vocabulary) (m : Meaning) (fin : IsFinite m) where
       ⊎_elim
       (λ kept. flag_listed atoms flags a (and_parts (holds flags a) (not (deletes_it action a)) kept).0)
       (λ added.
-          let one = (makes_decides Add (fin.adds action.schema) action (fin.add_listed action.schema) a).0 added in
-          Contains-append_right fin.facts (flat_map (λ b. map (instance b.objects) (fin.adds b.schema)) (all_actions words)) a
-          (flat_contains (λ b. map (instance b.objects) (fin.adds b.schema)) (all_actions words) action a (ground_listed words action fits)
-              (subst (Contains (map (instance action.objects) (fin.adds action.schema))) one.2 (map_contains (instance action.objects) (fin.adds action.schema) one.0 (fin.add_listed action.schema one.0 one.1)))))
+      let one = (makes_decides Add (fin.adds action.schema) action (fin.add_listed action.schema) a).0 added in
+      Contains-append_right fin.facts (flat_map (λ b. map (instance b.objects) (fin.adds b.schema)) (all_actions words)) a
+      (flat_contains (λ b. map (instance b.objects) (fin.adds b.schema)) (all_actions words) action a (ground_listed words action fits)
+      (subst (Contains (map (instance action.objects) (fin.adds action.schema))) one.2 (map_contains (instance action.objects) (fin.adds action.schema) one.0 (fin.add_listed action.schema one.0 one.1)))))
       (or_cases (holds flags a && not (deletes_it action a)) (adds_it action a) e)
 
   -- the flags after an action say the successor
@@ -201,11 +201,11 @@ module _ (words : Vocabulary) (m : Meaning) (fin : IsFinite m) where
       let deletes = makes_decides Del (fin.dels action.schema) action (fin.del_listed action.schema) a in (
         λ successor. decided.1 (⊎_elim
             (λ kept. or_left (holds flags a && not (deletes_it action a)) (adds_it action a)
-                (and_from (holds flags a) (not (deletes_it action a)) ((mirrors a).0 kept.0) (not_from_false (deletes_it action a) (false_from_ne_true (deletes_it action a) (λ e. kept.1 (deletes.0 e))))))
+            (and_from (holds flags a) (not (deletes_it action a)) ((mirrors a).0 kept.0) (not_from_false (deletes_it action a) (false_from_ne_true (deletes_it action a) (λ e. kept.1 (deletes.0 e))))))
             (λ added. or_right (holds flags a && not (deletes_it action a)) (adds_it action a) (adds.1 added)) successor),
         λ flagged. ⊎_elim
             (λ kept. let parts = and_parts (holds flags a) (not (deletes_it action a)) kept in
-                inl ((mirrors a).1 parts.0, λ gone. true≢false (sym (deletes.1 gone) ∙ not-true (deletes_it action a) parts.1)))
+            inl ((mirrors a).1 parts.0, λ gone. true≢false (sym (deletes.1 gone) ∙ not-true (deletes_it action a) parts.1)))
             (λ added. inr (adds.0 added))
             (or_cases (holds flags a && not (deletes_it action a)) (adds_it action a) (decided.0 flagged)),
       )
@@ -270,9 +270,9 @@ module _ (words : Vocabulary) (m : Meaning) (fin : IsFinite m) where
       let rest = way_known plan (next flags action) (k - unwrap_or (cost_of m action) 0) in
       ⊎_elim
       (λ e. ⊎_elim
-          (λ way. inl ((next flags action, unwrap_or (cost_of m action) 0), step_from flags action e, state_listed flags action, way))
-          (λ none. inr (λ way. let said = step_says flags action way.0 way.1 in none (subst (λ (to : List Bool × ℕ). Way to.0 plan (k - to.1)) said.1 way.3)))
-          rest)
+      (λ way. inl ((next flags action, unwrap_or (cost_of m action) 0), step_from flags action e, state_listed flags action, way))
+      (λ none. inr (λ way. let said = step_says flags action way.0 way.1 in none (subst (λ (to : List Bool × ℕ). Way to.0 plan (k - to.1)) said.1 way.3)))
+      rest)
       (λ e. inr (λ way. let said = step_says flags action way.0 way.1 in true≢false (sym said.0 ∙ e)))
       (cases_Bool (applies flags action))
 
@@ -281,15 +281,15 @@ module _ (words : Vocabulary) (m : Meaning) (fin : IsFinite m) where
   cheapest_known plan ground =
       ⊎_elim
       (λ way.
-          let valid = valid_from_way plan (Initial m) start (suc (cost m plan)) start_mirrors way in
-          ⊎_elim
-          (λ cheaper.
-              let other = valid_from_way cheaper.0 (Initial m) start (cost m plan) start_mirrors cheaper.1 in
-              inr (λ cheapest. omega (arith, cheapest.least cheaper.0 other.0 other.1, other.2)))
-          (λ none. inl (record {
-            valid = valid.1;
-            least = λ other fits runs. ⊎_elim (λ less. absurd (none other (way_from_valid other (Initial m) start (cost m plan) start_mirrors fits runs less))) (λ le. le) (cases_lt (cost m other) (cost m plan));
-          }))
-          (decided_way same_flags same_flags-decides step at_goal (all_actions words) step_listed states start (cost m plan)))
+      let valid = valid_from_way plan (Initial m) start (suc (cost m plan)) start_mirrors way in
+      ⊎_elim
+      (λ cheaper.
+      let other = valid_from_way cheaper.0 (Initial m) start (cost m plan) start_mirrors cheaper.1 in
+      inr (λ cheapest. omega (arith, cheapest.least cheaper.0 other.0 other.1, other.2)))
+      (λ none. inl (record {
+        valid = valid.1;
+        least = λ other fits runs. ⊎_elim (λ less. absurd (none other (way_from_valid other (Initial m) start (cost m plan) start_mirrors fits runs less))) (λ le. le) (cases_lt (cost m other) (cost m plan));
+      }))
+      (decided_way same_flags same_flags-decides step at_goal (all_actions words) step_listed states start (cost m plan)))
       (λ none. inr (λ cheapest. none (way_from_valid plan (Initial m) start (suc (cost m plan)) start_mirrors ground cheapest.valid (omega arith))))
       (way_known plan start (suc (cost m plan)))

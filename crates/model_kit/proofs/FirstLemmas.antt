@@ -41,10 +41,10 @@ subsets_within (suc n) s at k there =
     ⊎_elim
     (λ early. let bounds = subsets_within n s early k there in (bounds.0, omega (arith, bounds.1)))
     (λ late.
-        let from = contained_map (λ t. set.insert t (suc n)) (subsets n) s late in
-        let has : (nat_eq k (suc n) || set.contains from.0 k) ≡ true = sym (insert_has from.0 (suc n) k) ∙ ap (λ t. set.contains t k) from.2 ∙ there in
-        ⊎_elim (λ is. let same = eqb-true k (suc n) is in (omega (arith, same), omega (arith, same)))
-        (λ old. let bounds = subsets_within n from.0 from.1 k old in (bounds.0, omega (arith, bounds.1))) (or_cases (nat_eq k (suc n)) (set.contains from.0 k) has))
+    let from = contained_map (λ t. set.insert t (suc n)) (subsets n) s late in
+    let has : (nat_eq k (suc n) || set.contains from.0 k) ≡ true = sym (insert_has from.0 (suc n) k) ∙ ap (λ t. set.contains t k) from.2 ∙ there in
+    ⊎_elim (λ is. let same = eqb-true k (suc n) is in (omega (arith, same), omega (arith, same)))
+    (λ old. let bounds = subsets_within n from.0 from.1 k old in (bounds.0, omega (arith, bounds.1))) (or_cases (nat_eq k (suc n)) (set.contains from.0 k) has))
     (Contains-append_cases (subsets n) (map (λ t. set.insert t (suc n)) (subsets n)) s at)
 
 -- and each set within 1 to n is one of them
@@ -53,16 +53,16 @@ subsets_all zero s within = (0, omega arith, sym (same_told s set.empty (λ q. �
 subsets_all (suc n) s within =
     let less : Told = set.remove s (suc n) in
     let less_within : Within n less = λ k there.
-        let parts = and_parts (not (nat_eq k (suc n))) (set.contains s k) (sym (remove_has s (suc n) k) ∙ there) in
-        let bounds = within k parts.1 in
-        let apart = eqb-false k (suc n) (not-true (nat_eq k (suc n)) parts.0) in
-        (bounds.0, by_apart k n bounds.1 apart) in
+    let parts = and_parts (not (nat_eq k (suc n))) (set.contains s k) (sym (remove_has s (suc n) k) ∙ there) in
+    let bounds = within k parts.1 in
+    let apart = eqb-false k (suc n) (not-true (nat_eq k (suc n)) parts.0) in
+    (bounds.0, by_apart k n bounds.1 apart) in
     let found = subsets_all n less less_within in
     ⊎_elim
     (λ there. let whole : set.insert less (suc n) ≡ s = same_told (set.insert less (suc n)) s (λ q. insert_has less (suc n) q ∙ ap (λ b. nat_eq q (suc n) || b) (remove_has s (suc n) q) ∙ back (nat_eq q (suc n)) (set.contains s q) (λ e. ap (set.contains s) (eqb-true q (suc n) e) ∙ there)) in
-        subst (Contains (subsets (suc n))) whole (Contains-append_right (subsets n) (map (λ t. set.insert t (suc n)) (subsets n)) (set.insert less (suc n)) (map_contains (λ t. set.insert t (suc n)) (subsets n) less found)))
+    subst (Contains (subsets (suc n))) whole (Contains-append_right (subsets n) (map (λ t. set.insert t (suc n)) (subsets n)) (set.insert less (suc n)) (map_contains (λ t. set.insert t (suc n)) (subsets n) less found)))
     (λ away. let whole : less ≡ s = same_told less s (λ q. remove_has s (suc n) q ∙ stays (nat_eq q (suc n)) (set.contains s q) (λ e. ap (set.contains s) (eqb-true q (suc n) e) ∙ away)) in
-        subst (Contains (subsets (suc n))) whole (Contains-append_left (subsets n) (map (λ t. set.insert t (suc n)) (subsets n)) less found))
+    subst (Contains (subsets (suc n))) whole (Contains-append_left (subsets n) (map (λ t. set.insert t (suc n)) (subsets n)) less found))
     (cases_Bool (set.contains s (suc n)))
   where
     by_apart : (k m : ℕ) → k ≤ suc m → k ≢ suc m → k ≤ m
@@ -120,15 +120,15 @@ module _ (weights : List ℕ) (P : Told → Type 0) where
         let inside = within x (0, omega arith, refl) in
         ⊎_elim
         (λ has. ⊎_elim
-            (λ rest. inl (⊎_elim (λ same. (rest.0, led_by_old x rest.0 xs rest.1 (λ _. inl same)))
-                (⊎_elim (λ before. (x, led_by_new x rest.0 xs has rest.1 before)) (λ after. (rest.0, led_by_old x rest.0 xs rest.1 (λ _. inr after))))
-                (before_total weights x rest.0 inside (rest_within rest.0 rest.1.listed))))
-            (λ none. inl (x, record { listed = (0, omega arith, refl); has = has; leads = λ s at p. ⊎_elim (λ is. inl is) (λ in_rest. absurd (none s in_rest p)) (cons_cases x xs s at) }))
-            (first_listed xs rest_within))
+        (λ rest. inl (⊎_elim (λ same. (rest.0, led_by_old x rest.0 xs rest.1 (λ _. inl same)))
+        (⊎_elim (λ before. (x, led_by_new x rest.0 xs has rest.1 before)) (λ after. (rest.0, led_by_old x rest.0 xs rest.1 (λ _. inr after))))
+        (before_total weights x rest.0 inside (rest_within rest.0 rest.1.listed))))
+        (λ none. inl (x, record { listed = (0, omega arith, refl); has = has; leads = λ s at p. ⊎_elim (λ is. inl is) (λ in_rest. absurd (none s in_rest p)) (cons_cases x xs s at) }))
+        (first_listed xs rest_within))
         (λ lacks. ⊎_elim
-            (λ rest. inl (rest.0, led_by_old x rest.0 xs rest.1 (λ p. absurd (lacks p))))
-            (λ none. inr (λ s at p. ⊎_elim (λ is. lacks (subst P is p)) (λ in_rest. none s in_rest p) (cons_cases x xs s at)))
-            (first_listed xs rest_within))
+        (λ rest. inl (rest.0, led_by_old x rest.0 xs rest.1 (λ p. absurd (lacks p))))
+        (λ none. inr (λ s at p. ⊎_elim (λ is. lacks (subst P is p)) (λ in_rest. none s in_rest p) (cons_cases x xs s at)))
+        (first_listed xs rest_within))
         (known x inside)
 
     -- where some set within 1 to d has the property, one of them is before all others
@@ -154,9 +154,9 @@ module _ (d : ℕ) (passes : Told → Bool) (P : Told → Type 0) (known : (s : 
       let rest = each_listed xs (λ s at. within s (cons_later x xs s at)) in
       let here : Contains (x ∷ xs) x = (0, omega arith, refl) in
       let with_rest : (passes x ≡ true → P x) → ((s : Told) → Contains (x ∷ xs) s → passes s ≡ true → P s) ⊎ ((s : Told) × Contains (x ∷ xs) s × (passes s ≡ true) × ¬ P s) =
-          λ ok. ⊎_elim
-          (λ each. inl (λ s at e. ⊎_elim (λ is. subst P (sym is) (ok (ap passes (sym is) ∙ e))) (λ in_rest. each s in_rest e) (cons_cases x xs s at)))
-          (λ one. inr (one.0, cons_later x xs one.0 one.1, one.2, one.3)) rest in
+      λ ok. ⊎_elim
+      (λ each. inl (λ s at e. ⊎_elim (λ is. subst P (sym is) (ok (ap passes (sym is) ∙ e))) (λ in_rest. each s in_rest e) (cons_cases x xs s at)))
+      (λ one. inr (one.0, cons_later x xs one.0 one.1, one.2, one.3)) rest in
       ⊎_elim
       (λ tested. ⊎_elim (λ has. with_rest (λ _. has)) (λ lacks. inr (x, here, tested, lacks)) (known x (within x here)))
       (λ untested. with_rest (λ e. absurd (true≢false (sym e ∙ untested))))

@@ -87,8 +87,8 @@ module _ {X : Type 0} (same : X → X → Bool) where
     distinct_fails again =
         let entry = entry_before in
         sym (false_from_ne_true (are_distinct same xs) (λ e.
-            let here : (not (list_any (same entry.0) (drop place xs)) && are_distinct same (drop place xs)) ≡ true = sym (ap (are_distinct same) entry.1) ∙ distinct_drop (place - 1) xs e in
-            true≢false (sym (sym entry.2 ∙ again) ∙ not-true (list_any (same entry.0) (drop place xs)) (first_so (not (list_any (same entry.0) (drop place xs))) (are_distinct same (drop place xs)) here))))
+        let here : (not (list_any (same entry.0) (drop place xs)) && are_distinct same (drop place xs)) ≡ true = sym (ap (are_distinct same) entry.1) ∙ distinct_drop (place - 1) xs e in
+        true≢false (sym (sym entry.2 ∙ again) ∙ not-true (list_any (same entry.0) (drop place xs)) (first_so (not (list_any (same entry.0) (drop place xs))) (are_distinct same (drop place xs)) here))))
 
 -- a test of the numbers below n, in a loop over them
 module _ (p : ℕ → Bool) (n : ℕ) where

@@ -167,9 +167,9 @@ module _ {X : Type 0} (print : X → List ℕ) (ok : X → Type 0) (plain : (x :
       → form (name_of signatures m) (map print xs) ≡ form (name_of signatures n) (map print ys) → (m ≡ n) × (xs ≡ ys)
   read_back signatures named m n lt_m lt_n xs ys each other e =
       let parts = form-injective (name_of signatures m) (name_of signatures n) (map print xs) (map print ys)
-          (name_plain (name_of signatures m) (entry_name_good (λ s. s.name) signatures named m lt_m))
-          (name_plain (name_of signatures n) (entry_name_good (λ s. s.name) signatures named n lt_n))
-          (args_plain xs each) (args_plain ys other) e in
+      (name_plain (name_of signatures m) (entry_name_good (λ s. s.name) signatures named m lt_m))
+      (name_plain (name_of signatures n) (entry_name_good (λ s. s.name) signatures named n lt_n))
+      (args_plain xs each) (args_plain ys other) e in
       (entry_name-injective (λ s. s.name) signatures named m n lt_m lt_n parts.0, args_apart xs ys each other parts.1)
 
 objects_named : (words : Vocabulary) → AreNamed (λ e. e.0) words.objects
@@ -198,8 +198,8 @@ module _ (words : Vocabulary) where
   pub atom_form-injective : (a b : GroundAtom) → IsTrue (is_ground_atom words a) → IsTrue (is_ground_atom words b) → atom_form words a ≡ atom_form words b → a ≡ b
   atom_form-injective a b fit other e =
       let parts = read_back (object_name words) IsListed object_plain object_apart words.predicates (predicates_named words) a.predicate b.predicate
-          (signature_listed (is_object_of words) words.predicates a.predicate a.objects fit) (signature_listed (is_object_of words) words.predicates b.predicate b.objects other)
-          a.objects b.objects (objects_listed words.predicates a.predicate a.objects fit) (objects_listed words.predicates b.predicate b.objects other) e in
+      (signature_listed (is_object_of words) words.predicates a.predicate a.objects fit) (signature_listed (is_object_of words) words.predicates b.predicate b.objects other)
+      a.objects b.objects (objects_listed words.predicates a.predicate a.objects fit) (objects_listed words.predicates b.predicate b.objects other) e in
       λ i. record { predicate = parts.0 i; objects = parts.1 i }
 
   -- the same of a function at objects
@@ -266,6 +266,6 @@ module _ (words : Vocabulary) where
       → schema_atom_form words f ≡ schema_atom_form words g → f ≡ g
   schema_atom_form-injective params few f g fit other e =
       let parts = read_back (term_form words) IsPrintable term_plain term_apart words.predicates (predicates_named words) f.predicate g.predicate
-          (signature_listed (is_term_of words params) words.predicates f.predicate f.args fit) (signature_listed (is_term_of words params) words.predicates g.predicate g.args other)
-          f.args g.args (terms_printable params few words.predicates f.predicate f.args fit) (terms_printable params few words.predicates g.predicate g.args other) e in
+      (signature_listed (is_term_of words params) words.predicates f.predicate f.args fit) (signature_listed (is_term_of words params) words.predicates g.predicate g.args other)
+      f.args g.args (terms_printable params few words.predicates f.predicate f.args fit) (terms_printable params few words.predicates g.predicate g.args other) e in
       λ i. record { predicate = parts.0 i; args = parts.1 i }

@@ -31,8 +31,8 @@ pub first_printed_once : (words : Vocabulary) (P : GroundAtom → Type 0) (a b :
 first_printed_once words P a b one two =
     ⊎_elim (λ same. (same_atom-decides a b).0 same)
     (λ other.
-        let apart : a ≢ b = λ is. true≢false (sym ((same_atom-decides a b).1 is) ∙ other) in
-        absurd (not_both_before (atom_form words a) (atom_form words b) (one.first b two.has (λ is. apart (sym is))) (two.first a one.has apart)))
+    let apart : a ≢ b = λ is. true≢false (sym ((same_atom-decides a b).1 is) ∙ other) in
+    absurd (not_both_before (atom_form words a) (atom_form words b) (one.first b two.has (λ is. apart (sym is))) (two.first a one.has apart)))
     (cases_Bool (same_atom a b))
 
 module _ (model : Meaning) (plan : List GroundAction) where
@@ -43,7 +43,7 @@ module _ (model : Meaning) (plan : List GroundAction) where
       let there = leads_split model R (Initial model) stop.before (action ∷ stop.after) whole in
       leads_constant model ⊥ (Initial model) stop.before
       (leads_weaker model (λ s. Leads model s (action ∷ stop.after) R × Q s) (λ _. ⊥) (λ s both. stuck s both.1 both.0.0) (Initial model) stop.before
-          (leads_both model (λ s. Leads model s (action ∷ stop.after) R) Q (Initial model) stop.before there stop.leads))
+      (leads_both model (λ s. Leads model s (action ∷ stop.after) R) Q (Initial model) stop.before there stop.leads))
 
   -- a plan that stops at a step doesn't come to a later one
   no_later : (Q R : State → Type 0) (step later : ℕ) (action other : GroundAction) → step < later → StopsAt model plan step action Q → StopsAt model plan later other R → ((s : State) → Q s → ¬ Applies model s action) → ⊥
@@ -54,7 +54,7 @@ module _ (model : Meaning) (plan : List GroundAction) where
       let there = leads_split model R (Initial model) stop.before (action ∷ between.0) whole in
       leads_constant model ⊥ (Initial model) stop.before
       (leads_weaker model (λ s. Leads model s (action ∷ between.0) R × Q s) (λ _. ⊥) (λ s both. stuck s both.1 both.0.0) (Initial model) stop.before
-          (leads_both model (λ s. Leads model s (action ∷ between.0) R) Q (Initial model) stop.before there stop.leads))
+      (leads_both model (λ s. Leads model s (action ∷ between.0) R) Q (Initial model) stop.before there stop.leads))
 
   -- two stops are at one step, with one action and one state
   pub stops_together : (Q R : State → Type 0) (step later : ℕ) (action other : GroundAction) → StopsAt model plan step action Q → StopsAt model plan later other R
@@ -63,14 +63,14 @@ module _ (model : Meaning) (plan : List GroundAction) where
   stops_together Q R step later action other stop further stuck stuck_too =
       ⊎_elim
       (λ same.
-          let splits : stop.before ++ action ∷ stop.after ≡ further.before ++ other ∷ further.after = sym stop.split ∙ further.split in
-          let parts = split_same stop.before further.before action other stop.after further.after (omega (arith, stop.number, further.number, same)) splits in
-          let moved : Leads model (Initial model) stop.before R = subst (λ b. Leads model (Initial model) b R) (sym parts.0) further.leads in (
-            same,
-            parts.1,
-            λ P gives. leads_constant model P (Initial model) stop.before
-                (leads_weaker model (λ s. Q s × R s) (λ _. P) (λ s both. gives s both.0 both.1) (Initial model) stop.before (leads_both model Q R (Initial model) stop.before stop.leads moved)),
-          ))
+      let splits : stop.before ++ action ∷ stop.after ≡ further.before ++ other ∷ further.after = sym stop.split ∙ further.split in
+      let parts = split_same stop.before further.before action other stop.after further.after (omega (arith, stop.number, further.number, same)) splits in
+      let moved : Leads model (Initial model) stop.before R = subst (λ b. Leads model (Initial model) b R) (sym parts.0) further.leads in (
+        same,
+        parts.1,
+        λ P gives. leads_constant model P (Initial model) stop.before
+            (leads_weaker model (λ s. Q s × R s) (λ _. P) (λ s both. gives s both.0 both.1) (Initial model) stop.before (leads_both model Q R (Initial model) stop.before stop.leads moved)),
+      ))
       (⊎_elim (λ lt. absurd (no_later Q R step later action other lt stop further stuck)) (λ lt. absurd (no_later R Q later step other action lt further stop stuck_too)))
       (cases_order step later)
 
@@ -89,8 +89,8 @@ module _ (words : Vocabulary) (model : Meaning) (plan : List GroundAction) where
   judgement_once (Valid total) (NoCost step) one (action, none, stop) = absurd (no_stop model plan _ (IsGoal model) step action one.0 stop (λ s met applies. unpriced action none applies.priced))
   judgement_once (Valid total) (GoalMissing atom) one two =
       absurd (leads_constant model ⊥ (Initial model) plan
-          (leads_weaker model (λ s. IsGoal model s × IsFirstPrinted words (IsOpen model s) atom) (λ _. ⊥) (λ s both. both.1.has.1 (both.0 atom both.1.has.0)) (Initial model) plan
-              (leads_both model (IsGoal model) (λ s. IsFirstPrinted words (IsOpen model s) atom) (Initial model) plan one.0 two)))
+      (leads_weaker model (λ s. IsGoal model s × IsFirstPrinted words (IsOpen model s) atom) (λ _. ⊥) (λ s both. both.1.has.1 (both.0 atom both.1.has.0)) (Initial model) plan
+      (leads_both model (IsGoal model) (λ s. IsFirstPrinted words (IsOpen model s) atom) (Initial model) plan one.0 two)))
   judgement_once (Fails step atom) (Valid total) (action, stop) two = absurd (no_stop model plan _ (IsGoal model) step action two.0 stop (lacking action atom))
   judgement_once (Fails step atom) (Fails later other) (action, stop) (next, further) =
       let together = stops_together model plan _ _ step later action next stop further (lacking action atom) (lacking next other) in
@@ -110,11 +110,11 @@ module _ (words : Vocabulary) (model : Meaning) (plan : List GroundAction) where
   judgement_once (NoCost step) (GoalMissing other) (action, none, stop) two = absurd (no_stop model plan _ _ step action two stop (λ s met applies. unpriced action none applies.priced))
   judgement_once (GoalMissing atom) (Valid total) one two =
       absurd (leads_constant model ⊥ (Initial model) plan
-          (leads_weaker model (λ s. IsGoal model s × IsFirstPrinted words (IsOpen model s) atom) (λ _. ⊥) (λ s both. both.1.has.1 (both.0 atom both.1.has.0)) (Initial model) plan
-              (leads_both model (IsGoal model) (λ s. IsFirstPrinted words (IsOpen model s) atom) (Initial model) plan two.0 one)))
+      (leads_weaker model (λ s. IsGoal model s × IsFirstPrinted words (IsOpen model s) atom) (λ _. ⊥) (λ s both. both.1.has.1 (both.0 atom both.1.has.0)) (Initial model) plan
+      (leads_both model (IsGoal model) (λ s. IsFirstPrinted words (IsOpen model s) atom) (Initial model) plan two.0 one)))
   judgement_once (GoalMissing atom) (Fails step other) one (action, stop) = absurd (no_stop model plan _ _ step action one stop (lacking action other))
   judgement_once (GoalMissing atom) (NoCost step) one (action, none, stop) = absurd (no_stop model plan _ _ step action one stop (λ s met applies. unpriced action none applies.priced))
   judgement_once (GoalMissing atom) (GoalMissing other) one two =
       ap GoalMissing (leads_constant model (atom ≡ other) (Initial model) plan
-          (leads_weaker model (λ s. IsFirstPrinted words (IsOpen model s) atom × IsFirstPrinted words (IsOpen model s) other) (λ _. atom ≡ other) (λ s both. first_printed_once words (IsOpen model s) atom other both.0 both.1) (Initial model) plan
-              (leads_both model (λ s. IsFirstPrinted words (IsOpen model s) atom) (λ s. IsFirstPrinted words (IsOpen model s) other) (Initial model) plan one two)))
+      (leads_weaker model (λ s. IsFirstPrinted words (IsOpen model s) atom × IsFirstPrinted words (IsOpen model s) other) (λ _. atom ≡ other) (λ s both. first_printed_once words (IsOpen model s) atom other both.0 both.1) (Initial model) plan
+      (leads_both model (λ s. IsFirstPrinted words (IsOpen model s) atom) (λ s. IsFirstPrinted words (IsOpen model s) other) (Initial model) plan one two)))

@@ -36,7 +36,7 @@ module _ (model : Meaning) where
     reached_more words new price small taken = record {
       leads = subst (λ xs. Leads model (Initial model) xs (λ s. Alike s (StateOf new))) (sym (take_item plan place action at))
           (leads_join model (λ s. Alike s (StateOf new)) (Initial model) (take place plan) (action ∷ [])
-              (leads_weaker model (λ s. Alike s (StateOf old)) (λ s. Applies model s action × Alike (After model s action) (StateOf new)) stepped (Initial model) (take place plan) reached.leads));
+          (leads_weaker model (λ s. Alike s (StateOf old)) (λ s. Applies model s action × Alike (After model s action) (StateOf new)) stepped (Initial model) (take place plan) reached.leads));
       priced = added ∙ ap (cost model) (sym (take_item plan place action at));
       bounded = omega (arith, reached.bounded);
     }
@@ -96,7 +96,7 @@ module _ (model : Model) (plan : List GroundAction) (place : ℕ) (state : BTree
   pub valid_at_end : All (StateOf state) model.goal → (words : Vocabulary) → Judges words (meaning model) plan (Valid total)
   valid_at_end there words = (
     leads_weaker (meaning model) (λ s. Alike s (StateOf state)) (IsGoal (meaning model))
-    (λ s alike atom goal. (alike atom).1 (All-contains (StateOf state) model.goal atom there (listed_from_any same_atom same_atom-decides atom model.goal goal))) (Initial (meaning model)) plan through,
+        (λ s alike atom goal. (alike atom).1 (All-contains (StateOf state) model.goal atom there (listed_from_any same_atom same_atom-decides atom model.goal goal))) (Initial (meaning model)) plan through,
     reached.priced ∙ ap (cost (meaning model)) whole,
   )
 

@@ -67,9 +67,9 @@ module _ (words : Vocabulary) (planner user : Model) (places : List Place) (weig
   only_whole more within has =
       set.same_set nat_cmp_total set.nat_cmp-IsAntisymmetric more whole
       (λ q. ⊎_elim
-          (λ there. let bounds = within q there in there ∙ sym (all_has d q bounds.0 bounds.1))
-          (λ away. away ∙ sym (false_from_ne_true (set.contains whole q) (λ in_whole. true≢false (sym (set.is_subset-contains nat_cmp_total whole more has q in_whole) ∙ away))))
-          (cases_Bool (set.contains more q)))
+      (λ there. let bounds = within q there in there ∙ sym (all_has d q bounds.0 bounds.1))
+      (λ away. away ∙ sym (false_from_ne_true (set.contains whole q) (λ in_whole. true≢false (sym (set.is_subset-contains nat_cmp_total whole more has q in_whole) ∙ away))))
+      (cases_Bool (set.contains more q)))
 
   whole_monotonic : IsCheapest words (meaning planner) plan → IsMonotonic task whole
   whole_monotonic cheapest more within has = subst (IsComplete task) (sym (only_whole more within has)) (whole_complete cheapest)
@@ -86,8 +86,8 @@ module _ (words : Vocabulary) (planner user : Model) (places : List Place) (weig
   first_once P a b one two =
       ⊎_elim (λ same. same)
       (⊎_elim
-          (λ before. absurd (before_one_way weights a b before (two.first a one.within one.has (apart a b before))))
-          (λ before. absurd (before_one_way weights b a before (one.first b two.within two.has (apart b a before)))))
+      (λ before. absurd (before_one_way weights a b before (two.first a one.within one.has (apart a b before))))
+      (λ before. absurd (before_one_way weights b a before (one.first b two.within two.has (apart b a before)))))
       (before_total weights a b (to_weights a one.within) (to_weights b two.within))
     where
       apart : (x y : set.FinSet nat_cmp) → is_before weights x y ≡ true → x ≢ y
@@ -124,8 +124,8 @@ module _ (words : Vocabulary) (planner user : Model) (places : List Place) (weig
   mce_first mme mce last first =
       ⊎_elim (λ same. inl same)
       (⊎_elim
-          (λ before. inr (first.first mme last.within (complete_itself mme last.within last.has) (λ same. before_one_way weights mme mce before (subst (λ z. is_before weights z mme ≡ true) same (subst (λ z. is_before weights mme z ≡ true) (sym same) before)))))
-          (λ before. inr before))
+      (λ before. inr (first.first mme last.within (complete_itself mme last.within last.has) (λ same. before_one_way weights mme mce before (subst (λ z. is_before weights z mme ≡ true) same (subst (λ z. is_before weights mme z ≡ true) (sym same) before)))))
+      (λ before. inr before))
       (before_total weights mme mce (to_weights mme last.within) (to_weights mce first.within))
 
   pub order_law : OrderLaw task

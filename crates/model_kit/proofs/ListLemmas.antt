@@ -80,8 +80,8 @@ ground_listed words action fits =
     let params : params_of words action.schema ≡ at.0.params = ap (λ o. option_map_or (λ s. s.params) o []) at.1 in
     let count : length action.objects ≡ length (params_of words action.schema) = fit_count (is_object_of words) action.objects at.0.params at.2 ∙ ap (λ ps. length ps) (sym params) in
     let each = λ (k d : ℕ) (lt : k < length action.objects).
-        let typed = each_fits (is_object_of words) action.objects at.0.params at.2 k d lt in
-        range_contains (length words.objects) (get_or action.objects k d) (object_listed words (get_or action.objects k d) typed.0 typed.1) in
+    let typed = each_fits (is_object_of words) action.objects at.0.params at.2 k d lt in
+    range_contains (length words.objects) (get_or action.objects k d) (object_listed words (get_or action.objects k d) typed.0 typed.1) in
     let tuple = subst (λ n. Contains (tuples (range_with_len 0 (length words.objects)) n) action.objects) count (tuples_all (range_with_len 0 (length words.objects)) action.objects each) in
     flat_contains (λ n. map (λ objects. let made : GroundAction = record { schema = n; objects = objects } in made) (tuples (range_with_len 0 (length words.objects)) (length (params_of words n))))
     (range_with_len 0 (length words.actions)) action.schema action (range_contains (length words.actions) action.schema number)

@@ -66,9 +66,9 @@ module _ (words : Vocabulary) (state : BTreeSet GroundAtom) (atoms : List Ground
     each_more P before here k other lt at_k =
         ⊎_elim (λ less. before k other less at_k)
         (λ ge. let k_is : k ≡ place = omega arith in
-            let same : slice_get atoms k ≡ slice_get atoms place = ap (slice_get atoms) k_is in
-            let is : atom ≡ other = cc in
-            subst P is here)
+        let same : slice_get atoms k ≡ slice_get atoms place = ap (slice_get atoms) k_is in
+        let is : atom ≡ other = cc in
+        subst P is here)
         (cases_lt k place)
 
     pub still_known : has state atom ≡ true → (best : Option (ℕ × List ℕ)) → Known place best → Known (place + 1) best
@@ -124,7 +124,7 @@ module _ (words : Vocabulary) (state : BTreeSet GroundAtom) (atoms : List Ground
         let le : IsUpTo (atom_form words found) (atom_form words other) = subst (λ text. IsUpTo text (atom_form words other)) printed (known.least k other lt at_k other_away) in
         strictly (slice_cmp nat_cmp (atom_form words found) (atom_form words other)) le
         (λ tie. differs (sym (atom_form-injective words found other (All-contains (λ atom. IsTrue (is_ground_atom words atom)) atoms found fit (listed found best.0 at))
-            (All-contains (λ atom. IsTrue (is_ground_atom words atom)) atoms other fit missing.0) (exact_bytes (atom_form words found) (atom_form words other) tie))));
+        (All-contains (λ atom. IsTrue (is_ground_atom words atom)) atoms other fit missing.0) (exact_bytes (atom_form words found) (atom_form words other) tie))));
   }
     where
       same : known.atom ≡ found

@@ -141,7 +141,7 @@ pub contains_numbers : (d : ℕ) (told : set.FinSet nat_cmp) → Within d told �
 contains_numbers d told within q =
     ⊎_elim
     (λ there. let bounds = within q there in
-        there ∙ sym (among_filter (set.contains told) q (range_with_len 1 d) ∙ and_from (is_among q (range_with_len 1 d)) (set.contains told q) (among_range q 1 d bounds.0 (omega (arith, bounds.1))) there))
+    there ∙ sym (among_filter (set.contains told) q (range_with_len 1 d) ∙ and_from (is_among q (range_with_len 1 d)) (set.contains told q) (among_range q 1 d bounds.0 (omega (arith, bounds.1))) there))
     (λ away. away ∙ sym (among_filter (set.contains told) q (range_with_len 1 d) ∙ and_right (is_among q (range_with_len 1 d)) (set.contains told q) away))
     (cases_Bool (set.contains told q))
 

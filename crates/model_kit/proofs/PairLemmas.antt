@@ -25,7 +25,7 @@ module _ (planner user words : Vocabulary) (joint : IsJoint planner user words) 
   joint_ground action fits =
       let at = entry_passes (λ s. pointwise (is_object_of planner) action.objects s.params) planner.actions action.schema fits in
       let there : slice_get words.actions action.schema ≡ Some at.0 =
-          ap (λ actions. slice_get actions action.schema) joint.actions ∙ slice_get-append planner.actions _ action.schema at.0 at.1 in
+      ap (λ actions. slice_get actions action.schema) joint.actions ∙ slice_get-append planner.actions _ action.schema at.0 at.1 in
       entry_from (λ s. pointwise (is_object_of words) action.objects s.params) words.actions action.schema at.0 there
       (subst (λ is_of. pointwise is_of action.objects at.0.params ≡ true) (sym same_object) at.2)
 

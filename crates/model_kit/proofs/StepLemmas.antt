@@ -89,13 +89,13 @@ module _ (model : Model) (action : GroundAction) (schema : Schema) (at : slice_g
     λ there.
         ⊎_elim
         (λ kept. let parts = and_parts (has old atom) (not (list_any (same_atom atom) (instances schema.del))) kept in
-            inl (parts.0, λ deletes. true≢false (sym ((deletes_decided atom).1 deletes) ∙ not-true (list_any (same_atom atom) (instances schema.del)) parts.1)))
+        inl (parts.0, λ deletes. true≢false (sym ((deletes_decided atom).1 deletes) ∙ not-true (list_any (same_atom atom) (instances schema.del)) parts.1)))
         (λ added. inr ((adds_decided atom).0 added))
         (or_cases (has old atom && not (list_any (same_atom atom) (instances schema.del))) (list_any (same_atom atom) (instances schema.add)) (sym (changes atom) ∙ there)),
     λ after. changes atom ∙ ⊎_elim
         (λ kept. or_left (has old atom && not (list_any (same_atom atom) (instances schema.del))) (list_any (same_atom atom) (instances schema.add))
-            (and_from (has old atom) (not (list_any (same_atom atom) (instances schema.del))) kept.0
-                (not_from_false (list_any (same_atom atom) (instances schema.del)) (off (list_any (same_atom atom) (instances schema.del)) (λ e. kept.1 ((deletes_decided atom).0 e))))))
+        (and_from (has old atom) (not (list_any (same_atom atom) (instances schema.del))) kept.0
+        (not_from_false (list_any (same_atom atom) (instances schema.del)) (off (list_any (same_atom atom) (instances schema.del)) (λ e. kept.1 ((deletes_decided atom).0 e))))))
         (λ adds. or_right (has old atom && not (list_any (same_atom atom) (instances schema.del))) (list_any (same_atom atom) (instances schema.add)) ((adds_decided atom).1 adds))
         after,
   )

@@ -72,8 +72,8 @@ module _ (types : List (List ℕ × ℕ)) where
   pub climbed_past : (type above steps current : ℕ) → Climbed type above steps current → length types ≤ steps → current ≢ above → is_of_type types type above ≡ false
   climbed_past type above steps current climbed all other =
       false_from_ne_true (is_of_type types type above) (λ e.
-          let at = steps_up type above e in
-          ⊎_elim (λ before. climbed.passed at.0 before at.2) (λ not_before. let here : at.0 ≡ steps = omega (arith, at.1, not_before) in other (climbed.is ∙ ap (λ n. ancestor types n type) (sym here) ∙ at.2)) (cases_lt at.0 steps))
+      let at = steps_up type above e in
+      ⊎_elim (λ before. climbed.passed at.0 before at.2) (λ not_before. let here : at.0 ≡ steps = omega (arith, at.1, not_before) in other (climbed.is ∙ ap (λ n. ancestor types n type) (sym here) ∙ at.2)) (cases_lt at.0 steps))
 
   -- at the last type of the way
   pub climbed_end : (type above steps current : ℕ) → Climbed type above steps current → length types ≤ steps → steps ≤ length types → (current == above) ≡ is_of_type types type above
@@ -105,7 +105,7 @@ module _ (types : List (List ℕ × ℕ)) where
         let whole : ancestor types (two.0 + one.0) type ≡ above = ancestor-add two.0 one.0 type ∙ ap (ancestor types two.0) one.2 ∙ two.2 in
         ⊎_elim
         (λ far. let top : above ≡ 0 = sym whole ∙ past_the_top type chain.0 (two.0 + one.0) (omega (arith, chain.1, far)) chain.2 in
-            subst (λ a. is_of_type types type a ≡ true) (sym top) (facts.chains type listed))
+        subst (λ a. is_of_type types type a ≡ true) (sym top) (facts.chains type listed))
         (λ near. from_steps_up type above (two.0 + one.0) near whole)
         (cases_lt (length types) (two.0 + one.0))
 
@@ -137,7 +137,7 @@ module _ (words : Vocabulary) (params objects : List ℕ) (given : pointwise (is
       let facts = facts_of_words words in
       entry_from (λ e. is_of_type words.types e.1 type) words.objects (slice_index objects i) entry.0 entry.1
       (is_of_type-trans words.types facts.types_kept entry.0.1 declared.0 type
-          (All_item words.objects (slice_index objects i) entry.0 entry.1 (λ e. e.1 < length words.types) (type_listed words.types words.objects facts.objects_kept)) entry.2 declared.2)
+      (All_item words.objects (slice_index objects i) entry.0 entry.1 (λ e. e.1 < length words.types) (type_listed words.types words.objects facts.objects_kept)) entry.2 declared.2)
 
   pub args_fit : (args : List Term) (types : List ℕ) → pointwise (is_term_of words params) args types ≡ true → pointwise (is_object_of words) (map (object_of objects) args) types ≡ true
   args_fit [] [] fit = refl

@@ -60,10 +60,10 @@ module _ {S A : Type 0} (same : S → S → Bool) (decides : (s t : S) → Decid
       ⊎_elim
       (λ is. subst (λ b. length (cond b (x ∷ but t states) (but t states)) < length (x ∷ states)) (sym (not_from_true (same t x) ((decides t x).1 is))) (omega (arith, but_le t states)))
       (λ later.
-          let deeper = but_fewer t states later in
-          ⊎_elim (λ e. subst (λ b. length (cond b (x ∷ but t states) (but t states)) < length (x ∷ states)) (sym e) (omega (arith, deeper)))
-          (λ e. subst (λ b. length (cond b (x ∷ but t states) (but t states)) < length (x ∷ states)) (sym e) (omega (arith, deeper)))
-          (cases_Bool (not (same t x))))
+      let deeper = but_fewer t states later in
+      ⊎_elim (λ e. subst (λ b. length (cond b (x ∷ but t states) (but t states)) < length (x ∷ states)) (sym e) (omega (arith, deeper)))
+      (λ e. subst (λ b. length (cond b (x ∷ but t states) (but t states)) < length (x ∷ states)) (sym e) (omega (arith, deeper)))
+      (cases_Bool (not (same t x))))
       (cons_cases x states t at)
 
   -- a way from u either never enters t, or has an end that begins at t and never comes back to it
@@ -74,10 +74,13 @@ module _ {S A : Type 0} (same : S → S → Bool) (decides : (s t : S) → Decid
       let less : k - way.0.1 ≤ k = omega arith in
       ⊎_elim
       (λ avoids. ⊎_elim
-          (λ back. inr (as', reaches_more (Contains (but t states)) (Contains (but t states)) (λ s at. at) t as' (k - way.0.1) k less
-              (subst (λ s. Reaches (Contains (but t states)) s as' (k - way.0.1)) (sym ((decides t way.0.0).0 back)) avoids)))
-          (λ apart. inl (way.0, way.1, but_has t states way.0.0 way.2 apart, avoids))
-          (cases_Bool (same t way.0.0)))
+      (λ back. inr (
+        as',
+        reaches_more (Contains (but t states)) (Contains (but t states)) (λ s at. at) t as' (k - way.0.1) k less
+            (subst (λ s. Reaches (Contains (but t states)) s as' (k - way.0.1)) (sym ((decides t way.0.0).0 back)) avoids),
+      ))
+      (λ apart. inl (way.0, way.1, but_has t states way.0.0 way.2 apart, avoids))
+      (cases_Bool (same t way.0.0)))
       (λ enters. inr (enters.0, reaches_more (Contains (but t states)) (Contains (but t states)) (λ s at. at) t enters.0 (k - way.0.1) k less enters.1))
       (cut t states way.0.0 as' (k - way.0.1) way.3)
 
@@ -94,9 +97,9 @@ module _ {S A : Type 0} (same : S → S → Bool) (decides : (s t : S) → Decid
         ⊎_elim
         (λ found. inr (a, found.0, found.1))
         (λ none. ⊎_elim
-            (λ rest. inl (λ b as' way at. ⊎_elim (λ is. none as' (subst (λ c. Reaches (Contains states) s (c ∷ as') k) is way)) (λ later. rest b as' way later) (cons_cases a some b at)))
-            (λ found. inr found)
-            (first_step states s k by some))
+        (λ rest. inl (λ b as' way at. ⊎_elim (λ is. none as' (subst (λ c. Reaches (Contains states) s (c ∷ as') k) is way)) (λ later. rest b as' way later) (cons_cases a some b at)))
+        (λ found. inr found)
+        (first_step states s k by some))
         (by a)
 
     -- from what is known of the states after one is entered, whether some way begins with an action
@@ -110,10 +113,10 @@ module _ {S A : Type 0} (same : S → S → Bool) (decides : (s t : S) → Decid
             ⊎_elim
             (λ way. inl (way.0, (next, is, there, reaches_more (Contains (but next.0 states)) (Contains states) (but_of next.0 states) next.0 way.0 (k - next.1) (k - next.1) (omega arith) way.1)))
             (λ none. inr (λ as' way.
-                let one : Some way.0 ≡ Some next = sym way.1 ∙ is in
-                let state : way.0 ≡ next = cc in
-                let rest : Reaches (Contains states) next.0 as' (k - next.1) = subst (λ (n : S × ℕ). Reaches (Contains states) n.0 as' (k - n.1)) state way.3 in
-                ⊎_elim (λ avoids. none as' avoids) (λ enters. none enters.0 enters.1) (cut next.0 states next.0 as' (k - next.1) rest)))
+            let one : Some way.0 ≡ Some next = sym way.1 ∙ is in
+            let state : way.0 ≡ next = cc in
+            let rest : Reaches (Contains states) next.0 as' (k - next.1) = subst (λ (n : S × ℕ). Reaches (Contains states) n.0 as' (k - n.1)) state way.3 in
+            ⊎_elim (λ avoids. none as' avoids) (λ enters. none enters.0 enters.1) (cut next.0 states next.0 as' (k - next.1) rest)))
             found
 
         by : (o : Option (S × ℕ)) → step s a ≡ o → ((as' : List A) × Reaches (Contains states) s (a ∷ as') k) ⊎ ((as' : List A) → ¬ Reaches (Contains states) s (a ∷ as') k)
@@ -122,9 +125,9 @@ module _ {S A : Type 0} (same : S → S → Bool) (decides : (s t : S) → Decid
             ⊎_elim
             (λ there. let at = listed_from_any same decides next.0 states there in enter next is at (further next.0 at (k - next.1)))
             (λ away. inr (λ as' way.
-                let one : Some way.0 ≡ Some next = sym way.1 ∙ is in
-                let state : way.0 ≡ next = cc in
-                true≢false (sym (any_from_listed same decides next.0 states (subst (λ (n : S × ℕ). Contains states n.0) state way.2)) ∙ away)))
+            let one : Some way.0 ≡ Some next = sym way.1 ∙ is in
+            let state : way.0 ≡ next = cc in
+            true≢false (sym (any_from_listed same decides next.0 states (subst (λ (n : S × ℕ). Contains states n.0) state way.2)) ∙ away)))
             (cases_Bool (list_any (same next.0) states))
 
     -- whether some way begins at a state

@@ -1,5 +1,4 @@
 pub use Rattle.mre_base.specs.Before
-
 pub mod Names
 pub mod Same
 pub mod Types

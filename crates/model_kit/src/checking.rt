@@ -90,6 +90,7 @@ fn is_another_word(function: &Signature) -> bool
 
 impl Entry<List<(Text, u32)>> for (Text, u32) {
     ghost passes = { is_typed };
+
     ghost same = { same_name };
 
     fn does_pass(&self, types: &List<(Text, u32)>) -> bool {
@@ -103,6 +104,7 @@ impl Entry<List<(Text, u32)>> for (Text, u32) {
 
 impl Entry<List<(Text, u32)>> for Signature {
     ghost passes = { is_signature };
+
     ghost same = { same_word };
 
     fn does_pass(&self, types: &List<(Text, u32)>) -> bool {
@@ -155,6 +157,7 @@ impl Model {
 
 impl Entry<Vocabulary> for GroundAtom {
     ghost passes = { is_ground_atom };
+
     ghost same = { same_atom };
 
     fn does_pass(&self, words: &Vocabulary) -> bool {
@@ -168,6 +171,7 @@ impl Entry<Vocabulary> for GroundAtom {
 
 impl Entry<Vocabulary> for (u32, List<u32>, u32) {
     ghost passes = { is_value };
+
     ghost same = { same_key };
 
     fn does_pass(&self, words: &Vocabulary) -> bool {
@@ -181,6 +185,7 @@ impl Entry<Vocabulary> for (u32, List<u32>, u32) {
 
 impl Entry<Vocabulary> for u32 {
     ghost passes = { is_action };
+
     ghost same = { ◌==◌ };
 
     fn does_pass(&self, words: &Vocabulary) -> bool {
@@ -201,6 +206,7 @@ struct Scope<'a> {
 
 impl<'a> Entry<Scope<'a>> for SchemaAtom {
     ghost passes = { λ scope atom. is_schema_atom scope.words.now scope.params.now atom };
+
     ghost same = { same_schema_atom };
 
     fn does_pass(&self, scope: &Scope<'a>) -> bool {

@@ -7,6 +7,7 @@ use mre_base::List;
 // What stands in a list that has no entry twice, and is tested against what is given beside the list.
 pub(crate) trait Entry<C> {
     ghost passes: { C → Self → Bool };
+
     ghost same: { Self → Self → Bool };
 
     fn does_pass(&self, given: &C) -> bool

@@ -87,7 +87,8 @@ fn is_term_of(words: &Vocabulary, params: &List<u32>, term: Term, above: u32) ->
 {
     match term {
         Term::Param(i) => {
-            (i as usize) < params.len() && is_of_type(&words.types, *params.item(i as usize) as usize, above)
+            (i as usize) < params.len()
+                && is_of_type(&words.types, *params.item(i as usize) as usize, above)
         }
         Term::Object(object) => is_object_of(words, object, above),
     }
@@ -131,7 +132,12 @@ pub(crate) fn do_terms_fit(
     ensures { result ≡ fits_signature (term_below words.now params.now) signatures.now number terms.now }
 {
     (number as usize) < signatures.len()
-        && are_terms_of(words, params, terms, &signatures.item(number as usize).params)
+        && are_terms_of(
+            words,
+            params,
+            terms,
+            &signatures.item(number as usize).params,
+        )
 }
 
 fn are_terms_of(

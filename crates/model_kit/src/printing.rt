@@ -8,11 +8,7 @@ use mre_base::{List, NoMemory, Text};
 use std::alloc::Global;
 
 /// The printed form of a ground atom, as `(road hub mill)`.
-pub fn print_atom(
-    alloc: Global,
-    words: &Vocabulary,
-    atom: &GroundAtom,
-) -> Result<Text, NoMemory>
+pub fn print_atom(alloc: Global, words: &Vocabulary, atom: &GroundAtom) -> Result<Text, NoMemory>
     requires { IsTrue (is_ground_atom words.now atom.now) }
     ensures ok { IfOk result (λ text. text ≡ atom_form words.now atom.now) }
 {

@@ -16,7 +16,7 @@ pub loop-place-preserved : goal.loop-place-preserved
 loop-place-preserved c =
     subst (Known c.args.words.now c.args.state.now c.args.atoms.now (c.loop-place.place + 1)) (sym c.earlier-best.ensures)
     (earlier_known c.args.words.now c.args.state.now c.args.atoms.now _ _ c.item-atom.ensures (sym c.contains.ensures ∙ c.if-contains.false) c.in_ok-text.text c.in_ok-text.ensures.ok
-        c.loop-place.best c.loop-place.invariant)
+    c.loop-place.best c.loop-place.invariant)
 
 pub returns-in_default-clause-none : goal.returns-in_default-clause-none
 returns-in_default-clause-none c =

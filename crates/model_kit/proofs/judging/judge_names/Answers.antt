@@ -14,7 +14,7 @@ use Rattle.model_kit.proofs.judging.judge_names.Goals as goal
 pub returns-in-Unmet-clause-judged : goal.returns-in-Unmet-clause-judged
 returns-in-Unmet-clause-judged c =
     let said : Steps c.args.model.now.words (meaning c.args.model.now) c.item-action.result.now c.loop-place.state c.take_step.new.state (Unmet c.in-Unmet.atom) =
-        subst (Steps c.args.model.now.words (meaning c.args.model.now) c.item-action.result.now c.loop-place.state c.take_step.new.state) c.in-Unmet.is c.in_ok-more.ensures.ok in
+    subst (Steps c.args.model.now.words (meaning c.args.model.now) c.item-action.result.now c.loop-place.state c.take_step.new.state) c.in-Unmet.is c.in_ok-more.ensures.ok in
     fails_here (meaning c.args.model.now) c.args.plan.now.steps c.loop-place.place c.item-action.result.now c.item-action.ensures c.loop-place.state c.loop-place.cost c.loop-place.invariant
     c.args.model.now.words c.take_step.new.state c.in-Unmet.atom said (c.loop-place.place + 1) refl
 
@@ -25,7 +25,7 @@ returns-in-Unmet-clause-only c = λ other said.
 pub returns-in-Unpriced-clause-judged : goal.returns-in-Unpriced-clause-judged
 returns-in-Unpriced-clause-judged c =
     let said : Steps c.args.model.now.words (meaning c.args.model.now) c.item-action.result.now c.loop-place.state c.take_step.new.state Unpriced =
-        subst (Steps c.args.model.now.words (meaning c.args.model.now) c.item-action.result.now c.loop-place.state c.take_step.new.state) c.in-Unpriced.is c.in_ok-more.ensures.ok in
+    subst (Steps c.args.model.now.words (meaning c.args.model.now) c.item-action.result.now c.loop-place.state c.take_step.new.state) c.in-Unpriced.is c.in_ok-more.ensures.ok in
     no_cost_here (meaning c.args.model.now) c.args.plan.now.steps c.loop-place.place c.item-action.result.now c.item-action.ensures c.loop-place.state c.loop-place.cost c.loop-place.invariant
     c.args.model.now.words c.take_step.new.state said (c.loop-place.place + 1) refl
 
@@ -36,10 +36,10 @@ returns-in-Unpriced-clause-only c = λ other said.
 pub loop-place-preserved : goal.loop-place-preserved
 loop-place-preserved c =
     let said : Steps c.args.model.now.words (meaning c.args.model.now) c.item-action.result.now c.loop-place.state c.take_step.new.state (Taken c.in-Taken.more) =
-        subst (Steps c.args.model.now.words (meaning c.args.model.now) c.item-action.result.now c.loop-place.state c.take_step.new.state) c.in-Taken.is c.in_ok-more.ensures.ok in
+    subst (Steps c.args.model.now.words (meaning c.args.model.now) c.item-action.result.now c.loop-place.state c.take_step.new.state) c.in-Taken.is c.in_ok-more.ensures.ok in
     let small : c.in-Taken.more < 2 ^ 32 = omega arith in
     let more = reached_more (meaning c.args.model.now) c.args.plan.now.steps c.loop-place.place c.item-action.result.now c.item-action.ensures c.loop-place.state c.loop-place.cost c.loop-place.invariant
-        c.args.model.now.words c.take_step.new.state c.in-Taken.more small said in
+    c.args.model.now.words c.take_step.new.state c.in-Taken.more small said in
     subst (λ price. Reached (meaning c.args.model.now) c.args.plan.now.steps (c.loop-place.place + 1) c.take_step.new.state (c.loop-place.cost + price)) (sym c.from-cost.ensures) more
 
 pub first_missing-requires : goal.first_missing-requires

@@ -58,7 +58,7 @@ returns c =
     record {
       ok = (
         all_met c.args.model.now c.args.action.now c.item-schema.result.now c.item-schema.ensures c.in_ok-needed.needed c.in_ok-needed.ensures.ok c.args.state.now
-        (none_holds (All (StateOf c.args.state.now) c.in_ok-needed.needed) _ c.in_default.is c.in_ok-atom.ensures.none),
+            (none_holds (All (StateOf c.args.state.now) c.in_ok-needed.needed) _ c.in_default.is c.in_ok-atom.ensures.none),
         ap is_some price,
       );
     }
