@@ -1,10 +1,8 @@
 -- Two tests that compute: whether a list of ground actions is valid, and whether distances that are given show that no valid list costs less.
-use Rattle.std.proofs.Common.{◌≡◌, ℕ, ◌+◌, ◌-◌, ◌<◌, ◌≤◌, ◌*◌, zero, suc, Bool, true, false, List, [], ◌∷◌, length, get_or, map, Option, Some, None, refl, sym, ap, subst, ◌∙◌, arith, ⊎_elim, inl, inr}
-use Rattle.std.specs.Prelude.{◌⊎◌, ◌||◌, ◌&&◌, not, nat_le, nat_lt, nat_eq, IsTrue, Contains, All, is_some, unwrap_or}
-use Rattle.std.specs.Bool.{Decides}
-use Rattle.std.specs.List.{list_any, list_all}
-use Rattle.std.specs.Option.{option_map_or}
-use Rattle.std.proofs.lemmas.Bool.{true≢false, and_parts, and_from, or_cases, eqb-true, leb-true}
+use Rattle.std.proofs.Common.{◌≡◌, ℕ, ◌+◌, ◌-◌, ◌≤◌, suc, Bool, true, List, [], ◌∷◌, refl, subst, arith, ⊎_elim}
+use Rattle.std.specs.Prelude.{◌||◌, ◌&&◌, nat_le, nat_lt, nat_eq, All, is_some, unwrap_or}
+use Rattle.std.specs.List.{list_any}
+use Rattle.std.proofs.lemmas.Bool.{and_parts, and_from, or_cases, eqb-true, leb-true}
 use Rattle.std.proofs.lemmas.List.Sums.{sum_by-cons}
 use Rattle.std.proofs.lemmas.List.Elements.{All-cons, All-head, All-tail}
 use Rattle.model_kit.specs.declared.vocabulary.Vocabulary.{Vocabulary}
@@ -12,8 +10,8 @@ use Rattle.model_kit.specs.declared.atom.GroundAtom.{GroundAtom}
 use Rattle.model_kit.specs.declared.atom.SchemaAtom.{SchemaAtom}
 use Rattle.model_kit.specs.declared.action.GroundAction.{GroundAction}
 use Rattle.model_kit.specs.Vocabulary.{is_ground_action, IsGroundAction}
-use Rattle.model_kit.specs.Places.{Place, Init, Goal, Pre, Add, Meaning}
-use Rattle.model_kit.specs.Runs.{State, is_on, Has, instance, cost_of, Needs, Adds, Applies, After, Leads, Initial, IsGoal, IsValid, cost, IsCheapest}
+use Rattle.model_kit.specs.Places.{Init, Goal, Pre, Add, Meaning}
+use Rattle.model_kit.specs.Runs.{State, is_on, instance, cost_of, Adds, Applies, After, Leads, Initial, IsGoal, IsValid, cost, IsCheapest}
 use Rattle.model_kit.proofs.ListLemmas.{all_actions, ground_listed}
 use Rattle.model_kit.proofs.FiniteLemmas.{IsFinite, any_says, each_on, each_on_says, Mirrors, start, start_mirrors, at_goal, goal_says, applies, applies_says, applies_from, next, next_mirrors}
 

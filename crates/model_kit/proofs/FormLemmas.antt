@@ -252,17 +252,17 @@ module _ (words : Vocabulary) where
   term_apart (Object object) (Param i) listed small e = absurd (no_sign (object_name words object) (decimal (i + 1)) (object_named object listed) (sym e))
   term_apart (Object a) (Object b) listed other e = ap Object (object_apart words a b listed other e)
 
-  term_printable : (params : List ℕ) → length params < 2 ^ 63 → (term : Term) (type : ℕ) → is_term_of words params term type ≡ true → IsPrintable term
+  term_printable : (params : List ℕ) → length params < 2 ^ 64 → (term : Term) (type : ℕ) → is_term_of words params term type ≡ true → IsPrintable term
   term_printable params few (Param i) type fit = let listed = entry_listed (λ declared. is_of_type words.types declared type) params i fit in omega (arith, listed)
   term_printable params few (Object object) type fit = object_listed words object type fit
 
-  terms_printable : (params : List ℕ) → length params < 2 ^ 63 → (signatures : List Signature) (n : ℕ) (args : List Term) → fits_signature (is_term_of words params) signatures n args ≡ true
+  terms_printable : (params : List ℕ) → length params < 2 ^ 64 → (signatures : List Signature) (n : ℕ) (args : List Term) → fits_signature (is_term_of words params) signatures n args ≡ true
       → (k : ℕ) (d : Term) → k < length args → IsPrintable (get_or args k d)
   terms_printable params few signatures n args fit k d lt =
       let at = each_arg_fits (is_term_of words params) signatures n args fit k d lt in term_printable params few (get_or args k d) at.0 at.1
 
   -- two atoms of one schema with one printed form are one
-  pub schema_atom_form-injective : (params : List ℕ) → length params < 2 ^ 63 → (f g : SchemaAtom) → IsTrue (is_schema_atom words params f) → IsTrue (is_schema_atom words params g)
+  pub schema_atom_form-injective : (params : List ℕ) → length params < 2 ^ 64 → (f g : SchemaAtom) → IsTrue (is_schema_atom words params f) → IsTrue (is_schema_atom words params g)
       → schema_atom_form words f ≡ schema_atom_form words g → f ≡ g
   schema_atom_form-injective params few f g fit other e =
       let parts = read_back (term_form words) IsPrintable term_plain term_apart words.predicates (predicates_named words) f.predicate g.predicate

@@ -1,32 +1,24 @@
 -- The laws of explanations, of two models in the numbers of one vocabulary.
-use Rattle.std.proofs.Common.{◌≡◌, ℕ, ◌≤◌, Bool, true, false, cond, List, [], ◌++◌, length, Option, Some, None, sym, subst, ◌∙◌, arith, ⊎_elim, inl, inr}
-use Rattle.std.specs.Prelude.{◌⊎◌, ◌≢◌, IsTrue, Contains, All, slice_get}
-use Rattle.std.specs.List.{list_any}
-use Rattle.std.specs.Option.{option_map_or}
+use Rattle.std.proofs.Common.{◌≡◌, ℕ, ◌≤◌, true, List, length, sym, subst, ◌∙◌, arith, ⊎_elim, inl, inr}
+use Rattle.std.specs.Prelude.{◌⊎◌, ◌≢◌, IsTrue, All}
 use Rattle.std.specs.Ordering.{nat_cmp}
 use Rattle.std.specs.Cmp.{nat_cmp_total}
 use Rattle.std.specs.FinSet as set
 use Rattle.std.proofs.lemmas.Bool.{true≢false, cases_Bool, false_from_ne_true}
-use Rattle.std.proofs.lemmas.List.Elements.{Contains-append_left, Contains-append_right}
 use Rattle.mre_base.specs.Before.{is_before}
 use Rattle.model_kit.specs.declared.vocabulary.Vocabulary.{Vocabulary}
-use Rattle.model_kit.specs.declared.atom.SchemaAtom.{SchemaAtom}
 use Rattle.model_kit.specs.declared.action.GroundAction.{GroundAction}
 use Rattle.model_kit.specs.declared.model.Model.{Model}
-use Rattle.model_kit.specs.declared.model.Schema.{Schema}
-use Rattle.model_kit.specs.Same.{same_atom, same_schema_atom}
 use Rattle.model_kit.specs.Vocabulary.{IsGroundAction}
-use Rattle.model_kit.specs.Places.{Place, Init, Goal, Pre, Add, Del, Meaning, meaning, schema_has}
-use Rattle.model_kit.specs.Differences.{is_told, patched}
-use Rattle.model_kit.specs.Runs.{Has, is_on, IsCheapest}
+use Rattle.model_kit.specs.Places.{Place, meaning}
+use Rattle.model_kit.specs.Differences.{patched}
+use Rattle.model_kit.specs.Runs.{IsCheapest}
 use Rattle.model_kit.specs.Explanations.{Task, IsPosed, IsWithin, IsComplete, IsMonotonic, IsFirst, IsMCE, IsMME}
 use Rattle.model_kit.specs.Laws.{AtMostOne, MCELaw, MMELaw, OrderLaw, weight_of, task_of}
-use Rattle.model_kit.proofs.Alike.{same_atom-decides, same_schema_atom-decides}
-use Rattle.model_kit.proofs.StepLemmas.{listed_from_any}
 use Rattle.model_kit.proofs.OrderLemmas.{Within, before_one_way, before_no_heavier, before_total}
 use Rattle.model_kit.proofs.FirstLemmas.{first_of_known, each_known}
 use Rattle.model_kit.proofs.PlaceLemmas.{all_of, all_has, all_within, patched_all}
-use Rattle.model_kit.proofs.FiniteLemmas.{IsFinite, cheapest_known}
+use Rattle.model_kit.proofs.FiniteLemmas.{cheapest_known}
 use Rattle.model_kit.proofs.PatchedLemmas.{finite_after}
 
 module _ (words : Vocabulary) (planner user : Model) (places : List Place) (weights : List ℕ) (plan : List GroundAction)

@@ -9,6 +9,7 @@ pub mod StepLemmas
 pub mod RunLemmas
 pub mod JudgeLemmas
 pub mod JudgingLemmas
+pub mod NamedLemmas
 pub mod OrderLemmas
 pub mod FirstLemmas
 pub mod PlaceLemmas

@@ -1,5 +1,5 @@
 -- A model after some differences has finitely many features.
-use Rattle.std.proofs.Common.{◌≡◌, ℕ, Bool, true, false, cond, List, [], ◌++◌, Option, Some, None, sym, ◌∙◌, ⊎_elim, inl, inr}
+use Rattle.std.proofs.Common.{◌≡◌, ℕ, Bool, true, false, cond, List, [], ◌++◌, Option, Some, None, sym, ⊎_elim, inl, inr}
 use Rattle.std.specs.Prelude.{◌⊎◌, IsTrue, Contains, slice_get}
 use Rattle.std.specs.List.{list_any}
 use Rattle.std.specs.Option.{option_map_or}

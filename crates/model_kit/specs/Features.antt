@@ -1,5 +1,5 @@
 -- The facts that every model has: what it lists fits its vocabulary, and no feature is listed twice.
-use Rattle.std.specs.Prelude.{ℕ, ◌==◌, ◌&&◌, nat_lt, Bool, true, List, length}
+use Rattle.std.specs.Prelude.{ℕ, ◌==◌, ◌&&◌, nat_lt, Bool, true, IsTrue, List, length}
 use Rattle.std.specs.Cmp.Lexicographic.{pointwise}
 use Rattle.model_kit.specs.declared.vocabulary.Vocabulary.{Vocabulary}
 use Rattle.model_kit.specs.declared.vocabulary.Signature.{Signature}
@@ -24,6 +24,10 @@ are_schema_atoms words params atoms = are_entries (is_schema_atom words params) 
 abbrev pub is_cost : Vocabulary → List ℕ → CostExpr → Bool
 is_cost words params (Number n) = true
 is_cost words params (Call function args) = fits_signature (is_term_of words params) words.functions function args
+
+-- the cost of an action with some parameters
+abbrev pub IsCost : Vocabulary → CostExpr → Type 0
+IsCost words cost = (params : List ℕ) × IsTrue (is_cost words params cost)
 
 -- a schema of the action with this signature
 abbrev pub is_schema : Vocabulary → Schema → Signature → Bool

@@ -1,10 +1,11 @@
 -- The judgement of a plan in a model: that it is valid, with its cost, or the first thing that is wrong with it.
-use Rattle.std.specs.Prelude.{ℕ, ◌≡◌, ◌≢◌, ◌+◌, List, ◌∷◌, ◌++◌, length, IsNone}
+use Rattle.std.specs.Prelude.{ℕ, ◌≡◌, ◌≢◌, ◌+◌, List, ◌∷◌, ◌++◌, length, IsNone, IsTrue}
 use Rattle.model_kit.specs.declared.vocabulary.Vocabulary.{Vocabulary}
 use Rattle.model_kit.specs.declared.atom.GroundAtom.{GroundAtom}
 use Rattle.model_kit.specs.declared.action.GroundAction.{GroundAction}
 use Rattle.model_kit.specs.declared.judging.NamedJudgement.{NamedJudgement}
 use Rattle.model_kit.specs.declared.judging.NamedJudgement.TheVariants.{Valid, Fails, NoCost, GoalMissing}
+use Rattle.model_kit.specs.Vocabulary.{is_ground_atom}
 use Rattle.model_kit.specs.Places.{Goal, Meaning}
 use Rattle.model_kit.specs.Printed.{atom_form}
 use Rattle.model_kit.specs.Differences.{IsPrintedBefore}
@@ -39,3 +40,10 @@ Judges words model plan (Fails step atom) =
 Judges words model plan (NoCost step) =
     (action : GroundAction) × IsNone (cost_of model action) × StopsAt model plan step action (λ state. (atom : GroundAtom) → Needs model action atom → state atom)
 Judges words model plan (GoalMissing atom) = Leads model (Initial model) plan (λ state. IsFirstPrinted words (IsOpen model state) atom)
+
+-- the atom that a judgement names, where it names one, is a ground atom of the vocabulary
+abbrev pub NamesAtoms : Vocabulary → NamedJudgement → Type 0
+NamesAtoms words (Valid total) = Unit {0}
+NamesAtoms words (Fails step atom) = IsTrue (is_ground_atom words atom)
+NamesAtoms words (NoCost step) = Unit {0}
+NamesAtoms words (GoalMissing atom) = IsTrue (is_ground_atom words atom)

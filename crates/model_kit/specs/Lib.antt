@@ -4,6 +4,7 @@ pub mod Same
 pub mod Types
 pub mod Words
 pub mod Vocabulary
+pub mod Plain
 pub mod Features
 pub mod Places
 pub mod Printed

@@ -226,7 +226,8 @@ impl<'a> Entry<Scope<'a>> for SchemaAtom {
     }
 }
 
-fn are_same_terms(one: &List<Term>, other: &List<Term>) -> bool
+/// Whether two lists of terms are one.
+pub fn are_same_terms(one: &List<Term>, other: &List<Term>) -> bool
     ensures { result ≡ pointwise same_term one.now other.now }
 {
     if one.len() != other.len() {
@@ -279,7 +280,7 @@ fn is_schema_of(words: &Vocabulary, schema: &Schema, action: &Signature) -> bool
         && is_cost_of(words, &action.params, &schema.cost)
 }
 
-fn is_cost_of(words: &Vocabulary, params: &List<u32>, cost: &CostExpr) -> bool
+pub(crate) fn is_cost_of(words: &Vocabulary, params: &List<u32>, cost: &CostExpr) -> bool
     ensures { result ≡ is_cost words.now params.now cost.now }
 {
     match cost {

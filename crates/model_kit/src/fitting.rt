@@ -69,8 +69,8 @@ fn parent(types: &List<(Text, u32)>, number: usize) -> usize
     }
 }
 
-// Whether an object is of a type or of one below it.
-fn is_object_of(words: &Vocabulary, object: u32, above: u32) -> bool
+/// Whether an object is of a type or of one below it.
+pub fn is_object_of(words: &Vocabulary, object: u32, above: u32) -> bool
     ensures { result ≡ object_below words.now object above }
 {
     (object as usize) < words.objects.len()

@@ -1,7 +1,7 @@
 ghost use Rattle.std.specs.Prelude.{◌≡◌, ◌^◌, ◌<◌, length, All, IsTrue, IfOk, IfSome, IfNone};
 ghost use Rattle.model_kit.specs.Vocabulary.{is_ground_atom, is_ground_action, IsGroundAction};
 ghost use Rattle.model_kit.specs.Places.{meaning};
-ghost use Rattle.model_kit.specs.Judgement.{Judges, IsFirstPrinted};
+ghost use Rattle.model_kit.specs.Judgement.{Judges, IsFirstPrinted, NamesAtoms};
 ghost use Rattle.model_kit.specs.Judging.{StateOf, IsTableOf, IsMissing, earlier_of, Steps};
 
 use crate::state::{change, initial_state, instances};
@@ -29,6 +29,7 @@ pub fn judge_names(alloc: Global, model: &Model, plan: &Plan) -> Result<NamedJud
     requires fits { All (IsGroundAction model.now.words) plan.now.steps }
     requires few { length plan.now.steps < 2 ^ 30 }
     ensures judged { IfOk result (Judges model.now.words (meaning model.now) plan.now.steps) }
+    ensures fits { IfOk result (NamesAtoms model.now.words) }
     ensures only { IfOk result (λ judgement. (other : NamedJudgement) → Judges model.now.words (meaning model.now) plan.now.steps other → other ≡ judgement) }
 {
     let values = value_table(alloc, &model.values)?;

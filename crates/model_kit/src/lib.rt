@@ -11,13 +11,17 @@ mod laws;
 mod model;
 mod printing;
 mod state;
+#[cfg(test)]
+mod tests;
 mod values;
 mod vocabulary;
 
 pub use action::{GroundAction, Plan};
 pub use atom::{GroundAtom, SchemaAtom, Term};
+pub use checking::are_same_terms;
+pub use fitting::is_object_of;
 pub use judging::{NamedJudgement, judge_names};
 pub use laws::{law_mce, law_mme, law_order};
 pub use model::{CostExpr, Model, Schema};
-pub use printing::{print_atom, print_schema_atom};
+pub use printing::{print_action, print_atom, print_cost, print_schema_atom, print_value};
 pub use vocabulary::{Signature, Vocabulary};

@@ -1,9 +1,12 @@
-ghost use Rattle.std.specs.Prelude.{◌≡◌, ◌<◌, ◌++◌, IsTrue, IfOk, OnOk, ℕ, length, codes};
+ghost use Rattle.std.specs.Prelude.{◌≡◌, ◌<◌, ◌++◌, IsTrue, IfOk, OnOk, ℕ, List, length, codes, map};
 ghost use Rattle.std.specs.String.{string_bytes};
-ghost use Rattle.model_kit.specs.Vocabulary.{is_ground_atom, IsSchemaAtom};
-ghost use Rattle.model_kit.specs.Printed.{name_of, object_name, term_form, atom_form, schema_atom_form};
+ghost use Rattle.model_kit.specs.Vocabulary.{is_object_of, is_term_of, fits_signature, is_ground_atom, IsSchemaAtom, IsGroundAction};
+ghost use Rattle.model_kit.specs.Features.{IsCost};
+ghost use Rattle.model_kit.specs.Places.{Price};
+ghost use Rattle.model_kit.specs.Printed.{name_of, object_name, term_form, form, atom_form, schema_atom_form, action_form};
+ghost use Rattle.model_kit.specs.Sentences.{content_form};
 
-use crate::{GroundAtom, SchemaAtom, Signature, Term, Vocabulary};
+use crate::{CostExpr, GroundAction, GroundAtom, SchemaAtom, Signature, Term, Vocabulary};
 use mre_base::{List, NoMemory, Text};
 use std::alloc::Global;
 
@@ -12,11 +15,38 @@ pub fn print_atom(alloc: Global, words: &Vocabulary, atom: &GroundAtom) -> Resul
     requires { IsTrue (is_ground_atom words.now atom.now) }
     ensures ok { IfOk result (λ text. text ≡ atom_form words.now atom.now) }
 {
-    let mut text = opened(alloc, &words.predicates, atom.predicate)?;
-    for &object in atom.objects.as_slice() {
-        push_object(&mut text, words, object)?;
-    }
-    closed(alloc, text)
+    with_objects(
+        alloc,
+        words,
+        &words.predicates,
+        atom.predicate,
+        &atom.objects,
+    )
+}
+
+/// The printed form of a ground action, as `(drive hub mill)`.
+pub fn print_action(
+    alloc: Global,
+    words: &Vocabulary,
+    action: &GroundAction,
+) -> Result<Text, NoMemory>
+    requires { IsGroundAction words.now action.now }
+    ensures ok { IfOk result (λ text. text ≡ action_form words.now action.now) }
+{
+    with_objects(alloc, words, &words.actions, action.schema, &action.objects)
+}
+
+/// The printed form of a function with objects, as `(road-length hub mill)`.
+pub fn print_value(
+    alloc: Global,
+    words: &Vocabulary,
+    function: u32,
+    objects: &List<u32>,
+) -> Result<Text, NoMemory>
+    requires { IsTrue (fits_signature (is_object_of words.now) words.now.functions function objects.now) }
+    ensures ok { IfOk result (λ text. text ≡ form (name_of words.now.functions function) (map (object_name words.now) objects.now)) }
+{
+    with_objects(alloc, words, &words.functions, function, objects)
 }
 
 /// The printed form of an atom of an action schema, as `(road ?1 mill)`. Parameters are counted from 1.
@@ -28,9 +58,57 @@ pub fn print_schema_atom(
     requires { IsSchemaAtom words.now atom.now }
     ensures ok { IfOk result (λ text. text ≡ schema_atom_form words.now atom.now) }
 {
-    let mut text = opened(alloc, &words.predicates, atom.predicate)?;
-    for place in 0..atom.args.len() {
-        push_term(&mut text, words, *atom.args.item(place))?;
+    with_terms(alloc, words, &words.predicates, atom.predicate, &atom.args)
+}
+
+/// The printed form of what an action costs: the number, or the function with its terms, as `(road-length ?1 mill)`.
+pub fn print_cost(alloc: Global, words: &Vocabulary, cost: &CostExpr) -> Result<Text, NoMemory>
+    requires { IsCost words.now cost.now }
+    ensures ok { IfOk result (λ text. text ≡ content_form words.now (Price cost.now)) }
+{
+    match cost {
+        CostExpr::Number(number) => {
+            let text = format!(in alloc; "{number}")?;
+            Text::of(alloc, text.as_str())
+        }
+        CostExpr::Call { function, args } => {
+            with_terms(alloc, words, &words.functions, *function, args)
+        }
+    }
+}
+
+// `(NAME A1 A2)` of the signature with a number and of objects.
+fn with_objects(
+    alloc: Global,
+    words: &Vocabulary,
+    signatures: &List<Signature>,
+    number: u32,
+    objects: &List<u32>,
+) -> Result<Text, NoMemory>
+    requires { IsTrue (fits_signature (is_object_of words.now) signatures.now number objects.now) }
+    ensures ok { IfOk result (λ text. text ≡ form (name_of signatures.now number) (map (object_name words.now) objects.now)) }
+{
+    let mut text = opened(alloc, signatures, number)?;
+    for &object in objects.as_slice() {
+        push_object(&mut text, words, object)?;
+    }
+    closed(alloc, text)
+}
+
+// The same of terms of some schema.
+fn with_terms(
+    alloc: Global,
+    words: &Vocabulary,
+    signatures: &List<Signature>,
+    number: u32,
+    terms: &List<Term>,
+) -> Result<Text, NoMemory>
+    requires { (params : List ℕ) × IsTrue (fits_signature (is_term_of words.now params) signatures.now number terms.now) }
+    ensures ok { IfOk result (λ text. text ≡ form (name_of signatures.now number) (map (term_form words.now) terms.now)) }
+{
+    let mut text = opened(alloc, signatures, number)?;
+    for place in 0..terms.len() {
+        push_term(&mut text, words, *terms.item(place))?;
     }
     closed(alloc, text)
 }

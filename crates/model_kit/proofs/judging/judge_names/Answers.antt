@@ -9,6 +9,7 @@ use Rattle.model_kit.proofs.ActionLemmas.{some_holds, none_holds}
 use Rattle.model_kit.proofs.ModelFacts.{facts_of_model}
 use Rattle.model_kit.proofs.JudgeLemmas.{judgement_once}
 use Rattle.model_kit.proofs.JudgingLemmas.{Reached, reached_more, fails_here, no_cost_here, valid_at_end, open_at_end}
+use Rattle.model_kit.proofs.NamedLemmas.{judged_ground}
 use Rattle.model_kit.proofs.judging.judge_names.Goals as goal
 
 pub returns-in-Unmet-clause-judged : goal.returns-in-Unmet-clause-judged
@@ -17,6 +18,9 @@ returns-in-Unmet-clause-judged c =
     subst (Steps c.args.model.now.words (meaning c.args.model.now) c.item-action.result.now c.loop-place.state c.take_step.new.state) c.in-Unmet.is c.in_ok-more.ensures.ok in
     fails_here (meaning c.args.model.now) c.args.plan.now.steps c.loop-place.place c.item-action.result.now c.item-action.ensures c.loop-place.state c.loop-place.cost c.loop-place.invariant
     c.args.model.now.words c.take_step.new.state c.in-Unmet.atom said (c.loop-place.place + 1) refl
+
+pub returns-in-Unmet-clause-fits : goal.returns-in-Unmet-clause-fits
+returns-in-Unmet-clause-fits c = judged_ground c.args.model.now c.args.plan.now.steps c.requires.fits (Fails (c.loop-place.place + 1) c.in-Unmet.atom) (returns-in-Unmet-clause-judged c)
 
 pub returns-in-Unmet-clause-only : goal.returns-in-Unmet-clause-only
 returns-in-Unmet-clause-only c = λ other said.
@@ -49,6 +53,9 @@ pub returns-in-Some-clause-judged : goal.returns-in-Some-clause-judged
 returns-in-Some-clause-judged c =
     open_at_end c.args.model.now c.args.plan.now.steps c.loop-place.place c.loop-place.state c.loop-place.cost c.loop-place.invariant (omega arith) c.args.model.now.words c.in-Some.atom
     (some_holds (IsFirstPrinted c.args.model.now.words (IsMissing c.args.model.now.goal c.loop-place.state)) _ _ c.in-Some.is c.in_ok-atom.ensures.first)
+
+pub returns-in-Some-clause-fits : goal.returns-in-Some-clause-fits
+returns-in-Some-clause-fits c = judged_ground c.args.model.now c.args.plan.now.steps c.requires.fits (GoalMissing c.in-Some.atom) (returns-in-Some-clause-judged c)
 
 pub returns-in-Some-clause-only : goal.returns-in-Some-clause-only
 returns-in-Some-clause-only c = λ other said.
