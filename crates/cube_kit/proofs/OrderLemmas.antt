@@ -1,12 +1,12 @@
 -- The order of sets, level by level: by a number, and then by a test where the numbers are equal.
-use Rattle.std.proofs.Common.{◌≡◌, ℕ, zero, suc, ◌+◌, ◌-◌, ◌≤◌, ◌<◌, Bool, true, false, ◌&&◌, cond, List, [], ◌∷◌, length, filter, take, slice_index, nat_eq, nat_lt, refl, sym, ap, ◌∙◌, arith, ◌⊎◌, inl, inr}
+use Rattle.std.proofs.Common.{◌≡◌, ℕ, zero, suc, ◌+◌, ◌-◌, ◌≤◌, ◌<◌, Bool, true, false, ◌&&◌, cond, List, [], ◌∷◌, length, filter, take, replicate, slice_index, nat_eq, nat_lt, refl, sym, ap, ◌∙◌, arith, ◌⊎◌, inl, inr}
 use Rattle.std.specs.List.{range_with_len, list_any}
 use Rattle.std.specs.Cmp.{nat_cmp_total}
 use Rattle.std.specs.FinSet as set
 use Rattle.std.specs.FinSet.{same_set, is_subset-contains, nat_cmp-IsAntisymmetric}
 use Rattle.std.proofs.lemmas.Bool.{cases_order, false≢true}
 use Rattle.std.proofs.lemmas.Bool.Decides.{nat_tests}
-use Rattle.std.proofs.lemmas.List.{get_or-take, length-take}
+use Rattle.std.proofs.lemmas.List.{get_or-take, length-take, get_or-replicate, length-replicate}
 use Rattle.std.proofs.lemmas.List.Sums.{sum_by-cons}
 use Rattle.mre_base.specs.Before.{numbers, count_of, weight, is_earlier_list, is_smaller, is_lighter, is_before}
 use Rattle.cube_kit.specs.Cubes.{Told, IsWithin}
@@ -158,6 +158,30 @@ pub before_narrow : (ws : List ℕ) (d : ℕ) (a b : Told) → d ≤ length ws �
 before_narrow ws d a b le wa wb =
     λ i. by_number (weight-shorter ws d a le wa i) (weight-shorter ws d b le wb i) (is_smaller (numbers-narrow ws d a le wa i) (numbers-narrow ws d b le wb i))
 
+-- ---- the order where every weight is 1
+-- the weight of numbers from 1 to d is then how many they are
+weight-ones : (d : ℕ) (p : ℕ → Bool) (a n : ℕ) → 1 ≤ a → a + n ≤ d + 1 → weight (replicate d 1) (filter p (range_with_len a n)) ≡ length (filter p (range_with_len a n))
+weight-ones d p a zero low high = refl
+weight-ones d p a (suc n) low high = step (p a) (weight-ones d p (a + 1) n (omega arith) (omega arith)) (get_or-replicate d (a - 1) 1 0 (omega arith)) where
+  one_more : (x r s l : ℕ) → s ≡ x + r → x ≡ 1 → r ≡ l → s ≡ suc l
+  one_more x r s l e ex er = omega arith
+
+  step : (b : Bool) → weight (replicate d 1) (filter p (range_with_len (a + 1) n)) ≡ length (filter p (range_with_len (a + 1) n)) → slice_index (replicate d 1) (a - 1) ≡ 1
+      → weight (replicate d 1) (cond b (a ∷ filter p (range_with_len (a + 1) n)) (filter p (range_with_len (a + 1) n))) ≡ length (cond b (a ∷ filter p (range_with_len (a + 1) n)) (filter p (range_with_len (a + 1) n)))
+  step true rest one =
+      one_more (slice_index (replicate d 1) (a - 1)) (weight (replicate d 1) (filter p (range_with_len (a + 1) n))) _ _
+      (sum_by-cons (λ k. slice_index (replicate d 1) (k - 1)) a (filter p (range_with_len (a + 1) n))) one rest
+  step false rest one = rest
+
+number_twice : (n m : ℕ) (r : Bool) → by_number n m (by_number n m r) ≡ by_number n m r
+number_twice n m r = grind (arith, nat_tests)
+
+pub before_even : (d : ℕ) (a b : Told) → is_before (replicate d 1) a b ≡ is_smaller (numbers d a) (numbers d b)
+before_even d a b =
+    ap (λ k. is_lighter (replicate d 1) (numbers k a) (numbers k b)) (length-replicate d 1)
+    ∙ (λ i. by_number (weight-ones d (set.contains a) 1 d (omega arith) (omega arith) i) (weight-ones d (set.contains b) 1 d (omega arith) (omega arith) i) (is_smaller (numbers d a) (numbers d b)))
+    ∙ number_twice (length (numbers d a)) (length (numbers d b)) (is_earlier_list (numbers d a) (numbers d b))
+
 -- ---- the order by one level
 number_apart : (n m : ℕ) (r : Bool) → (n ≡ m → ⊥) → nat_lt n m ≡ by_number n m r
 number_apart n m r apart = grind (arith, nat_tests)
@@ -190,4 +214,4 @@ unfolding count_of
 count-numbers ws s e = ap (λ k. length (numbers k s)) (sym e)
 
 pub order_law : OrderLaw
-order_law = record { one_way = before_one_way; trans = before_trans; total = before_total; greater = before_greater; narrow = before_narrow }
+order_law = record { one_way = before_one_way; trans = before_trans; total = before_total; greater = before_greater; narrow = before_narrow; even = before_even }

@@ -1,11 +1,12 @@
 -- The laws of the order of sets and of cubes.
-use Rattle.std.specs.Prelude.{ℕ, ◌+◌, ◌≡◌, ◌≤◌, true, false, ◌&&◌, not, cond, List, length, take, ◌⊎◌}
+use Rattle.std.specs.Prelude.{ℕ, ◌+◌, ◌≡◌, ◌≤◌, true, false, ◌&&◌, not, cond, List, length, take, replicate, ◌⊎◌}
 use Rattle.std.specs.FinSet as set
-use Rattle.mre_base.specs.Before.{is_before}
+use Rattle.mre_base.specs.Before.{numbers, is_smaller, is_before}
 use Rattle.cube_kit.specs.Weighing.{AreWeights}
 use Rattle.cube_kit.specs.Cubes.{Told, CubeMeaning, IsWithin, IsCube, is_member, is_inside, root, single, above, told_child, left_child}
 
--- the order of sets is strict and total, a set is before each greater one, and weights beyond the sets' numbers play no part
+-- the order of sets is strict and total, a set is before each greater one, weights beyond the sets' numbers play no part, and where every
+-- weight is 1 the order is by size and then by numbers
 pub record OrderLaw : Type 0 where
   pub one_way : (weights : List ℕ) (a b : Told) → is_before weights a b ≡ true → is_before weights b a ≡ false
   pub trans : (weights : List ℕ) (a b c : Told) → is_before weights a b ≡ true → is_before weights b c ≡ true → is_before weights a c ≡ true
@@ -15,6 +16,7 @@ pub record OrderLaw : Type 0 where
       (a ≡ b) ⊎ (is_before weights a b ≡ true)
   pub narrow : (weights : List ℕ) (d : ℕ) (a b : Told) → d ≤ length weights → IsWithin d a → IsWithin d b →
       is_before (take d weights) a b ≡ is_before weights a b
+  pub even : (d : ℕ) (a b : Told) → is_before (replicate d 1) a b ≡ is_smaller (numbers d a) (numbers d b)
 
 -- the laws of cubes: which sets are members, and that inner cubes, children and single cubes have members of the cube alone
 pub record CubeLaw : Type 0 where

@@ -1,7 +1,7 @@
 ghost use Rattle.cube_kit.specs.Laws.{CubeLaw, OrderLaw};
 
-/// The order of sets of differences is strict and total, each set is before every greater one, and weights beyond the numbers of two
-/// sets play no part.
+/// The order of sets of differences is strict and total, each set is before every greater one, weights beyond the numbers of two
+/// sets play no part, and where every weight is 1 the order is by size and then by numbers.
 pub fn law_order()
     ensures { OrderLaw }
 {}
