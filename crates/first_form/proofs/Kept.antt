@@ -19,7 +19,7 @@ use Rattle.model_kit.proofs.Distinct.{all_decides}
 use Rattle.first_form.specs.declared.domain.Domain.{Domain}
 use Rattle.first_form.specs.declared.problem.Problem.{Problem}
 use Rattle.first_form.specs.declared.reading.FirstForm.{FirstForm}
-use Rattle.first_form.specs.Plain.{has_none, is_plain}
+use Rattle.model_kit.specs.Plain.{has_none, is_plain}
 use Rattle.first_form.specs.Forms.{taken, number_in, only_word, step_of, with_line, steps_of}
 use Rattle.first_form.specs.Texts.{IsPlanText, IsModelOf, IsFirstForm}
 use Rattle.first_form.proofs.Options.{some_inj, and_then_some, map_some, taken_keeps}

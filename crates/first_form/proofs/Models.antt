@@ -14,7 +14,8 @@ use Rattle.model_kit.specs.Features.{are_ground_atoms, is_schema, is_value, same
 use Rattle.model_kit.proofs.Ands.{all5, all6}
 use Rattle.first_form.specs.declared.domain.Domain.{Domain}
 use Rattle.first_form.specs.declared.problem.Problem.{Problem}
-use Rattle.first_form.specs.Plain.{has_none, atom_of}
+use Rattle.model_kit.specs.Plain.{has_none}
+use Rattle.first_form.specs.Plain.{atom_of}
 use Rattle.first_form.proofs.Sound.{AreGood, IsGoodDomain, IsGoodProblem, ground_atoms_good}
 
 abbrev pub the_types : List (List ℕ × ℕ)

@@ -22,7 +22,8 @@ use Rattle.model_kit.proofs.Ands.{all4}
 use Rattle.first_form.specs.declared.effect.Effect.{Effect}
 use Rattle.first_form.specs.declared.domain.Domain.{Domain}
 use Rattle.first_form.specs.declared.problem.Problem.{Problem}
-use Rattle.first_form.specs.Plain.{has_none, atom_of as ground_of}
+use Rattle.model_kit.specs.Plain.{has_none}
+use Rattle.first_form.specs.Plain.{atom_of as ground_of}
 use Rattle.first_form.specs.Trees.{only_if, list_of, word_at, name_at, atom_of, is_free_name, part_at, is_title_at, negated}
 use Rattle.first_form.specs.Forms.{number_in, with_name, with_number, with_atom, facts_in, facts_at, with_signed, with_literal, effect_in, effect_at, schema_atom, schema_from, is_action, schema_in, with_parts, with_action, with_predicate, predicates_in, without_actions, actions_behind, domain_in, definition, domain_of, goal_at, is_problem, problem_from, problem_in, problem_of}
 use Rattle.first_form.proofs.Options.{some_inj, only_if_some, and_then_some, map_some, taken_keeps}

@@ -4,7 +4,7 @@ ghost use Rattle.pddl_text.specs.Plans.{SpellsPlan};
 ghost use Rattle.pddl_text.specs.declared.plan.PlanLine as line;
 ghost use Rattle.model_kit.specs.Pairs.{Agree};
 ghost use Rattle.model_kit.specs.Vocabulary.{IsGroundAction};
-ghost use Rattle.first_form.specs.Plain.{is_plain};
+ghost use Rattle.model_kit.specs.Plain.{is_plain};
 ghost use Rattle.first_form.specs.Stops.{IfOutside};
 ghost use Rattle.first_form.specs.Texts.{IsFirstForm, IsOutside};
 
