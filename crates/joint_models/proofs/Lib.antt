@@ -1,0 +1,14 @@
+pub mod Entries
+pub mod Spelled
+pub mod Alikeness
+pub mod Search
+pub mod Lent
+pub mod Told
+pub mod Mapped
+pub mod Growing
+pub mod Keeping
+pub mod Joint
+pub mod Renumbered
+pub mod Schemas
+pub mod Built
+pub mod Paired

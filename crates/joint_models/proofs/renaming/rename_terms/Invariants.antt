@@ -1,0 +1,6 @@
+use Rattle.std.proofs.Common.{◌≡◌, take, map}
+use Rattle.joint_models.specs.Renaming.{term_by}
+use Rattle.joint_models.proofs.renaming.rename_terms.Given as goal
+
+abbrev pub invariant-loop-place : goal.invariant-loop-place
+invariant-loop-place l = l.made ≡ map (term_by l.numbers) (take l.place l.terms)

@@ -1,0 +1,5 @@
+pub mod Listed
+pub mod Disagreements
+pub mod Lists
+pub mod Searching
+pub mod Renaming

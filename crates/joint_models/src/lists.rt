@@ -1,0 +1,44 @@
+ghost use Rattle.std.specs.Prelude.{◌≡◌, IfOk};
+ghost use Rattle.joint_models.specs.Lists.{AreListsOf, listed_in};
+
+use crate::group::Group;
+use crate::listed::{Listed, copy_entries, typed_entries};
+use model_kit::Vocabulary;
+use mre_base::NoMemory;
+use std::alloc::Global;
+
+/// All that a vocabulary lists, found by names.
+#[derive(Drop)]
+pub(crate) struct Lists {
+    pub(crate) types: Listed,
+    pub(crate) objects: Listed,
+    pub(crate) actions: Listed,
+    pub(crate) predicates: Listed,
+    pub(crate) functions: Listed,
+}
+
+impl Lists {
+    pub(crate) fn of(alloc: Global, words: &Vocabulary) -> Result<Lists, NoMemory>
+        ensures ok { IfOk result (AreListsOf words.now) }
+    {
+        Ok(Lists {
+            types: Listed::of(alloc, typed_entries(alloc, &words.types)?)?,
+            objects: Listed::of(alloc, typed_entries(alloc, &words.objects)?)?,
+            actions: Listed::of(alloc, copy_entries(alloc, &words.actions)?)?,
+            predicates: Listed::of(alloc, copy_entries(alloc, &words.predicates)?)?,
+            functions: Listed::of(alloc, copy_entries(alloc, &words.functions)?)?,
+        })
+    }
+
+    pub(crate) fn group(&self, group: Group) -> &Listed
+        ensures { result.now ≡ listed_in group self.now }
+    {
+        match group {
+            Group::Types => &self.types,
+            Group::Objects => &self.objects,
+            Group::Actions => &self.actions,
+            Group::Predicates => &self.predicates,
+            Group::Functions => &self.functions,
+        }
+    }
+}
