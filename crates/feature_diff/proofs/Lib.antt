@@ -1,0 +1,12 @@
+pub mod RowLemmas
+pub mod GatherLemmas
+pub mod GroupLemmas
+pub mod FeatureLemmas
+pub mod FactLemmas
+pub mod PartLemmas
+pub mod ValueLemmas
+pub mod JoinLemmas
+pub mod ActionLemmas
+pub mod ToldLemmas
+pub mod BlendLemmas
+pub mod OneListLemmas

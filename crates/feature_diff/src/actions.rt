@@ -1,0 +1,135 @@
+ghost use Rattle.std.specs.Prelude.{◌≡◌, ◌+◌, ◌*◌, ◌<◌, OnOk, length};
+ghost use Rattle.model_kit.specs.Places.{Feature, Knows, meaning};
+ghost use Rattle.feature_diff.specs.Telling.{same_cost};
+ghost use Rattle.feature_diff.specs.Parts.{GainsGroup, IsGathered};
+
+use crate::Difference;
+use crate::copies::Copied;
+use crate::gathered::Gathered;
+use crate::schema_parts::{ActionPart, Part, tell_part};
+use model_kit::{CostExpr, Model, are_same_terms};
+use mre_base::NoMemory;
+use std::alloc::Global;
+
+// Whether a model knows an action.
+fn knows(model: &Model, action: u32) -> bool
+    requires { action < length model.now.words.actions }
+    ensures { meaning model.now (Knows action) ≡ Feature result }
+{
+    !model.unknown.as_slice().contains(&action)
+}
+
+// Tells that one model alone knows an action.
+fn tell_knowledge(
+    planner: &Model,
+    user: &Model,
+    action: u32,
+    gathered: &mut Gathered,
+) -> Result<(), NoMemory>
+    requires joint { user.now.words ≡ planner.now.words }
+    requires listed { action < length planner.now.words.actions }
+    ensures ok { OnOk result (GainsGroup planner.now user.now (2 + 5 * action) gathered.old gathered.new) }
+{
+    let planner_has = knows(planner, action);
+    if planner_has == knows(user, action) {
+        return Ok(());
+    }
+    gathered.add(Difference::Knows {
+        action,
+        planner_has,
+    })
+}
+
+fn are_same_costs(one: &CostExpr, other: &CostExpr) -> bool
+    ensures { result ≡ same_cost one.now other.now }
+{
+    match (one, other) {
+        (CostExpr::Number(m), CostExpr::Number(n)) => *m == *n,
+        (
+            CostExpr::Call { function, args },
+            CostExpr::Call {
+                function: other_function,
+                args: other_args,
+            },
+        ) => *function == *other_function && are_same_terms(args, other_args),
+        (CostExpr::Number(_), CostExpr::Call { .. }) => false,
+        (CostExpr::Call { .. }, CostExpr::Number(_)) => false,
+    }
+}
+
+// Tells that an action has another cost in each model.
+fn tell_cost(
+    alloc: Global,
+    planner: &Model,
+    user: &Model,
+    action: u32,
+    gathered: &mut Gathered,
+) -> Result<(), NoMemory>
+    requires joint { user.now.words ≡ planner.now.words }
+    requires listed { action < length planner.now.words.actions }
+    ensures ok { OnOk result (GainsGroup planner.now user.now (6 + 5 * action) gathered.old gathered.new) }
+{
+    let one = planner.schemas.item(action as usize);
+    let other = user.schemas.item(action as usize);
+    if are_same_costs(&one.cost, &other.cost) {
+        return Ok(());
+    }
+    let planner_cost = one.cost.copied(alloc)?;
+    let user_cost = other.cost.copied(alloc)?;
+    gathered.add(Difference::Cost {
+        action,
+        planner: planner_cost,
+        user: user_cost,
+    })
+}
+
+// Tells all differences of an action.
+fn tell_action(
+    alloc: Global,
+    planner: &Model,
+    user: &Model,
+    action: u32,
+    gathered: &mut Gathered,
+) -> Result<(), NoMemory>
+    requires joint { user.now.words ≡ planner.now.words }
+    requires listed { action < length planner.now.words.actions }
+    ensures ok { OnOk result (IsGathered planner.now user.now (2 + 5 * action) gathered.old → IsGathered planner.now user.now (2 + 5 * (action + 1)) gathered.new) }
+{
+    tell_knowledge(planner, user, action, gathered)?;
+    let pre = ActionPart {
+        action,
+        part: Part::Pre,
+    };
+    tell_part(alloc, planner, user, pre, gathered)?;
+    let add = ActionPart {
+        action,
+        part: Part::Add,
+    };
+    tell_part(alloc, planner, user, add, gathered)?;
+    let del = ActionPart {
+        action,
+        part: Part::Del,
+    };
+    tell_part(alloc, planner, user, del, gathered)?;
+    tell_cost(alloc, planner, user, action, gathered)
+}
+
+// Tells all differences of all actions. So many actions that a number is none of the machine's are taken for want of memory.
+pub(crate) fn tell_actions(
+    alloc: Global,
+    planner: &Model,
+    user: &Model,
+    gathered: &mut Gathered,
+) -> Result<(), NoMemory>
+    requires joint { user.now.words ≡ planner.now.words }
+    requires facts { IsGathered planner.now user.now 2 gathered.old }
+    ensures ok { OnOk result (IsGathered planner.now user.now (2 + 5 * length planner.now.words.actions) gathered.new) }
+{
+    if planner.words.actions.len() > u32::MAX as usize {
+        return Err(NoMemory);
+    }
+    for action in 0..planner.words.actions.len() as u32 {
+        tell_action(alloc, planner, user, action, gathered)?;
+    }
+    Ok(())
+}

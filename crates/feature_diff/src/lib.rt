@@ -1,0 +1,23 @@
+//! The differences of two models, and the user's model after some of them are told.
+#![tactic(auto)]
+
+mod actions;
+mod blending;
+mod copies;
+mod difference;
+mod facts;
+mod form;
+mod gathered;
+mod gathering;
+mod pair;
+mod rows;
+mod schema_parts;
+mod spots;
+#[cfg(test)]
+mod tests;
+mod told;
+mod worths;
+
+pub use difference::Difference;
+pub use joint_models::{PairFault, PairStop};
+pub use pair::{DiffStop, Pair};

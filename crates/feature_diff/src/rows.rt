@@ -1,0 +1,107 @@
+ghost use Rattle.std.specs.Prelude.{◌≡◌, IfOk, OnOk};
+ghost use Rattle.std.specs.BTreeMap.{get};
+ghost use Rattle.feature_diff.specs.Rows.{form_cmp, spots_of, NotesPlanner, NotesUser, AreRows, IsLaidOut};
+
+use crate::form::Form;
+use mre_base::{List, NoMemory, Text};
+use std::alloc::Global;
+use std::collections::BTreeMap;
+
+// Where a printed form stands in the planner's list and in the user's, counted from 0, if it does.
+#[derive(Clone, Copy)]
+pub(crate) struct Spots {
+    pub(crate) planner: Option<usize>,
+    pub(crate) user: Option<usize>,
+}
+
+// A printed form, and where it stands.
+#[derive(Drop)]
+pub(crate) struct Row {
+    pub(crate) form: Text,
+    pub(crate) spots: Spots,
+}
+
+// The forms of two lists in ASCII order, each once, with where it stands in either.
+pub(crate) fn align(
+    alloc: Global,
+    planner: &List<Text>,
+    user: &List<Text>,
+) -> Result<List<Row>, NoMemory>
+    ensures ok { IfOk result (AreRows planner.now user.now) }
+{
+    let mut table = BTreeMap::new(alloc);
+    for place in 0..planner.len() {
+        note_planner(alloc, &mut table, planner.item(place), place)?;
+    }
+    for place in 0..user.len() {
+        note_user(alloc, &mut table, user.item(place), place)?;
+    }
+    lay_out(alloc, table)
+}
+
+// What the map has at a form.
+fn spots_at(table: &BTreeMap<Form, Spots>, form: &Form) -> Spots
+    ensures { result ≡ spots_of (get form_cmp table.now form.now) }
+{
+    match table.get(form) {
+        Some(spots) => *spots,
+        None => Spots {
+            planner: None,
+            user: None,
+        },
+    }
+}
+
+// The form stands at this place of the planner's list.
+fn note_planner(
+    alloc: Global,
+    table: &mut BTreeMap<Form, Spots>,
+    form: &Text,
+    place: usize,
+) -> Result<(), NoMemory>
+    ensures ok { OnOk result (NotesPlanner table.old table.new form.now place) }
+{
+    let key = Form {
+        text: form.copy(alloc)?,
+    };
+    let spots = Spots {
+        planner: Some(place),
+        user: spots_at(table, &key).user,
+    };
+    table.insert(key, spots)?;
+    Ok(())
+}
+
+// The form stands at this place of the user's list.
+fn note_user(
+    alloc: Global,
+    table: &mut BTreeMap<Form, Spots>,
+    form: &Text,
+    place: usize,
+) -> Result<(), NoMemory>
+    ensures ok { OnOk result (NotesUser table.old table.new form.now place) }
+{
+    let key = Form {
+        text: form.copy(alloc)?,
+    };
+    let spots = Spots {
+        planner: spots_at(table, &key).planner,
+        user: Some(place),
+    };
+    table.insert(key, spots)?;
+    Ok(())
+}
+
+// The entries of the map in their order.
+fn lay_out(alloc: Global, table: BTreeMap<Form, Spots>) -> Result<List<Row>, NoMemory>
+    ensures ok { IfOk result (IsLaidOut table) }
+{
+    let mut rows = List::empty(alloc);
+    for (form, spots) in table {
+        rows.push(Row {
+            form: form.text,
+            spots,
+        })?;
+    }
+    Ok(rows)
+}

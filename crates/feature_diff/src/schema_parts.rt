@@ -1,0 +1,114 @@
+ghost use Rattle.std.specs.Prelude.{◌≡◌, ◌<◌, None, OnOk, length};
+ghost use Rattle.model_kit.specs.Vocabulary.{IsSchemaAtom};
+ghost use Rattle.model_kit.specs.Printed.{schema_atom_form};
+ghost use Rattle.feature_diff.specs.Telling.{part_of, part_told, group_in};
+ghost use Rattle.feature_diff.specs.Parts.{GainsGroup};
+
+use crate::Difference;
+use crate::copies::Copied;
+use crate::gathered::Gathered;
+use crate::told::{Told, tell};
+use model_kit::{Model, Schema, SchemaAtom, Vocabulary, print_schema_atom};
+use mre_base::{List, NoMemory, Text};
+use std::alloc::Global;
+
+// The lists of atoms of an action schema.
+#[derive(Clone, Copy)]
+pub(crate) enum Part {
+    Pre,
+    Add,
+    Del,
+}
+
+// One of the lists of an action.
+#[derive(Clone, Copy)]
+pub(crate) struct ActionPart {
+    pub(crate) action: u32,
+    pub(crate) part: Part,
+}
+
+pub(crate) fn atoms_in(part: Part, schema: &Schema) -> &List<SchemaAtom>
+    ensures { result.now ≡ part_of part schema.now }
+{
+    match part {
+        Part::Pre => &schema.pre,
+        Part::Add => &schema.add,
+        Part::Del => &schema.del,
+    }
+}
+
+// Tells the preconditions, adds or deletes of an action that one model alone has.
+pub(crate) fn tell_part(
+    alloc: Global,
+    planner: &Model,
+    user: &Model,
+    kind: ActionPart,
+    gathered: &mut Gathered,
+) -> Result<(), NoMemory>
+    requires joint { user.now.words ≡ planner.now.words }
+    requires listed { kind.action < length planner.now.words.actions }
+    ensures ok { OnOk result (GainsGroup planner.now user.now (group_in kind.part kind.action) gathered.old gathered.new) }
+{
+    let place = kind.action as usize;
+    let signature = planner.words.actions.item(place);
+    // So each parameter has a number that can be printed.
+    prove!(signature.params.len() <= usize::MAX);
+    tell::<ActionPart, SchemaAtom>(
+        alloc,
+        &planner.words,
+        &kind,
+        atoms_in(kind.part, planner.schemas.item(place)),
+        atoms_in(kind.part, user.schemas.item(place)),
+        gathered,
+    )
+}
+
+impl Told<ActionPart> for SchemaAtom {
+    ghost Fits = { IsSchemaAtom };
+
+    ghost form = { schema_atom_form };
+
+    ghost alone = { part_told };
+
+    ghost both = { λ kind one other. None };
+
+    fn print(&self, alloc: Global, words: &Vocabulary) -> Result<Text, NoMemory> {
+        print_schema_atom(alloc, words, self)
+    }
+
+    fn tell_alone(
+        &self,
+        alloc: Global,
+        kind: &ActionPart,
+        planner_has: bool,
+    ) -> Result<Difference, NoMemory> {
+        let atom = self.copied(alloc)?;
+        let action = kind.action;
+        Ok(match kind.part {
+            Part::Pre => Difference::Pre {
+                action,
+                atom,
+                planner_has,
+            },
+            Part::Add => Difference::Add {
+                action,
+                atom,
+                planner_has,
+            },
+            Part::Del => Difference::Del {
+                action,
+                atom,
+                planner_has,
+            },
+        })
+    }
+
+    fn tell_both(
+        &self,
+        _user: &SchemaAtom,
+        _alloc: Global,
+        _kind: &ActionPart,
+    ) -> Result<Option<Difference>, NoMemory> {
+        Ok(None)
+    }
+}

@@ -1,0 +1,117 @@
+ghost use Rattle.std.specs.Prelude.{◌≡◌, ◌≤◌, length};
+ghost use Rattle.std.specs.FinSet as set;
+ghost use Rattle.model_kit.specs.Places.{same_place};
+ghost use Rattle.model_kit.specs.Same.{same_schema_atom};
+ghost use Rattle.feature_diff.specs.Differing.{place_of};
+ghost use Rattle.feature_diff.specs.Blending.{action_place, is_told_at};
+ghost use Rattle.feature_diff.specs.Telling.{fact_place, place_in};
+
+use crate::Difference;
+use crate::copies::Copied;
+use crate::facts::FactKind;
+use crate::schema_parts::{ActionPart, Part};
+use crate::worths::Worths;
+use model_kit::{GroundAtom, SchemaAtom, are_same_terms};
+use mre_base::{List, Places};
+
+// What stands at a place of a model.
+pub(crate) trait Spot<K>: Copied {
+    ghost use Rattle.model_kit.specs.Places.{Place};
+
+    ghost place: { K → Self → Place };
+
+    // Whether a difference is at that place.
+    fn is_at(&self, kind: &K, difference: &Difference) -> bool
+        ensures { result ≡ same_place (place_of difference.now) (place kind.now self.now) };
+}
+
+// What of an action is no list.
+#[derive(Clone, Copy)]
+pub(crate) enum ActionKind {
+    Knows,
+    Cost,
+}
+
+impl Spot<FactKind> for GroundAtom {
+    ghost place = { fact_place };
+
+    fn is_at(&self, kind: &FactKind, difference: &Difference) -> bool {
+        match (kind, difference) {
+            (FactKind::Init, Difference::Init { atom, .. }) => atom == self,
+            (FactKind::Goal, Difference::Goal { atom, .. }) => atom == self,
+            _ => false,
+        }
+    }
+}
+
+impl Spot<ActionPart> for SchemaAtom {
+    ghost place = { λ kind. place_in kind.part kind.action };
+
+    fn is_at(&self, kind: &ActionPart, difference: &Difference) -> bool {
+        match (kind.part, difference) {
+            (Part::Pre, Difference::Pre { action, atom, .. }) => {
+                *action == kind.action && is_same_atom(atom, self)
+            }
+            (Part::Add, Difference::Add { action, atom, .. }) => {
+                *action == kind.action && is_same_atom(atom, self)
+            }
+            (Part::Del, Difference::Del { action, atom, .. }) => {
+                *action == kind.action && is_same_atom(atom, self)
+            }
+            _ => false,
+        }
+    }
+}
+
+impl Spot<Worths> for (u32, List<u32>, u32) {
+    ghost use Rattle.model_kit.specs.Places.{Value};
+
+    ghost place = { λ kind value. Value value.0 value.1 };
+
+    fn is_at(&self, _kind: &Worths, difference: &Difference) -> bool {
+        match difference {
+            Difference::Value {
+                function,
+                objects,
+                ..
+            } => *function == self.0 && objects.as_slice() == self.1.as_slice(),
+            _ => false,
+        }
+    }
+}
+
+impl Spot<ActionKind> for u32 {
+    ghost place = { action_place };
+
+    fn is_at(&self, kind: &ActionKind, difference: &Difference) -> bool {
+        match (kind, difference) {
+            (ActionKind::Knows, Difference::Knows { action, .. }) => *action == *self,
+            (ActionKind::Cost, Difference::Cost { action, .. }) => *action == *self,
+            _ => false,
+        }
+    }
+}
+
+fn is_same_atom(one: &SchemaAtom, other: &SchemaAtom) -> bool
+    ensures { result ≡ same_schema_atom one.now other.now }
+{
+    one.predicate == other.predicate && are_same_terms(&one.args, &other.args)
+}
+
+// Whether the number of the difference at a place is told.
+pub(crate) fn is_told<K, T: Spot<K>>(
+    item: &T,
+    kind: &K,
+    differences: &List<Difference>,
+    told: &Places,
+) -> bool
+    requires few { length differences.now ≤ 256 }
+    ensures { result ≡ is_told_at differences.now told.now (T.place kind.now item.now) }
+{
+    for number in 0..differences.len() {
+        if item.is_at(kind, differences.item(number)) {
+            return told.has(number as u32 + 1);
+        }
+    }
+    false
+}
