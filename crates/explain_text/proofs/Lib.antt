@@ -1,0 +1,4 @@
+pub mod LawLemmas
+mod NumberLemmas
+mod SentenceLemmas
+mod TestLemmas
