@@ -1,0 +1,32 @@
+-- How the first complete set is found: each set is kept in place of the best one so far where it is complete and before it.
+use Rattle.std.specs.Prelude.{ℕ, ◌≡◌, ◌⊎◌, true, List}
+use Rattle.std.specs.Ordering.{nat_cmp}
+use Rattle.std.specs.FinSet as set
+use Rattle.mre_base.specs.Before.{is_before}
+use Rattle.model_kit.specs.declared.model.Model.{Model}
+use Rattle.model_kit.specs.declared.action.GroundAction.{GroundAction}
+use Rattle.model_kit.specs.Differences.{patched}
+use Rattle.model_kit.specs.Explanations.{Task, IsComplete}
+use Rattle.model_kit.specs.Runs.{cost}
+use Rattle.feature_diff.specs.declared.difference.Difference.{Difference}
+use Rattle.feature_diff.specs.Differing.{AreDifferencesOf}
+use Rattle.plain_program.specs.declared.answer.FirstComplete.{FirstComplete}
+use Rattle.plain_program.specs.Tasks.{even_task}
+
+-- what a plan costs in the user's model after a set of differences
+abbrev pub cost_after : Task → set.FinSet nat_cmp → ℕ
+cost_after task told = cost (patched task.planner task.user task.places told) task.plan
+
+-- a fact of the task of a pair, its differences, which are determined by the pair, and a plan
+abbrev pub OfTask : Model → Model → List GroundAction → (Task → Type 0) → Type 0
+OfTask planner user plan Fact = (differences : List Difference) → AreDifferencesOf planner user differences → Fact (even_task planner user differences plan)
+
+-- the set is complete, and the plan has this cost after it
+abbrev pub IsPriced : Task → set.FinSet nat_cmp → ℕ → Type 0
+IsPriced task told price = IsComplete task told × (price ≡ cost_after task told)
+
+-- of the best set so far and another one, the first of those that are complete is kept
+abbrev pub Keeps : Task → FirstComplete → set.FinSet nat_cmp → FirstComplete → Type 0
+Keeps task best told kept =
+    ((kept ≡ best) × ¬ (IsComplete task told × (is_before task.weights told best.told ≡ true)))
+    ⊎ ((kept.told ≡ told) × (is_before task.weights told best.told ≡ true) × IsPriced task told kept.cost)

@@ -1,0 +1,5 @@
+pub mod Answers
+pub mod Kept
+pub mod Numbered
+pub mod Subsets
+pub mod Tasks

@@ -1,0 +1,12 @@
+//! The plain program: the definitions computed on small inputs, set by set, each judged on a task of numbers by a plain search.
+#![tactic(auto)]
+
+mod answer;
+mod keeping;
+mod numbering;
+mod subsets;
+#[cfg(test)]
+mod tests;
+mod trying;
+
+pub use answer::{FirstComplete, Foil, cheaper_list, first_complete};
