@@ -4,7 +4,7 @@ use Rattle.std.proofs.lemmas.List.{map_more, append-nil}
 use Rattle.mre_outside.specs.Shelves.{Files}
 use Rattle.mre_outside.specs.declared.shelf.ShelfCall.{ShelfCall}
 use Rattle.mre_top.specs.declared.refusal.Refusal.{Refusal}
-use Rattle.mre_top.specs.declared.refusal.Refusal.TheVariants.{Usage, ReadFailed, TooLong, Unbuilt, NoMemory}
+use Rattle.mre_top.specs.declared.refusal.Refusal.TheVariants.{ReadFailed, TooLong, NoMemory}
 use Rattle.mre_top.specs.Reads.{AreReadable, IsTooLong, Stops, StopsAt, asked_then, reads, read_of, name_at, calls_of}
 
 -- one call after the others
@@ -35,8 +35,7 @@ stops_at T names held file asked middle last within before said (TooLong at) e a
     )
 stops_at T names held file asked middle last within before said NoMemory e after =
     (reads (take file names), (file, omega arith, refl), after ∙ ap (λ calls. asked_then calls []) said ∙ asked_then-twice asked (reads (take file names)) [] ∙ ap (asked_then asked) (append-nil (reads (take file names))))
-stops_at T names held file asked middle last within before said Usage e after = absurd e
-stops_at T names held file asked middle last within before said (Unbuilt at) e after = absurd e
+stops_at T names held file asked middle last within before said _ e after = absurd e
 
 -- a call that read a file asked for it
 pub asked-read : (names : List (List ℕ)) (file : ℕ) (asked middle last : Option (List ShelfCall)) → file < length names → middle ≡ asked_then asked (reads (take file names)) → last ≡ asked_then middle (read_of false (name_at names file) ∷ []) → last ≡ asked_then asked (reads (take (file + 1) names))

@@ -1,5 +1,17 @@
+pub mod Answered
 pub mod Calls
+pub mod Due
+pub mod DueStatus
+pub mod Endings
+pub mod Lines
 pub mod Names
+pub mod Once
+pub mod OneEnd
+pub mod Printing
+pub mod Ready
 pub mod Requested
+pub mod SameLists
+pub mod SameModels
+pub mod Served
 pub mod Statuses
 pub mod Written

@@ -33,6 +33,10 @@ pub record AreRead (held : Option Files) (names : List (List ℕ)) (contents : L
   pub whole : IfSome held (λ files. map (files_map.get files) names ≡ map Some contents)
   pub within : All (λ bytes. length bytes ≤ file_limit) contents
 
+-- no content has more bytes than a file may have
+abbrev pub AreShort : List (List ℕ) → Type 0
+AreShort contents = All (λ bytes. length bytes ≤ file_limit) contents
+
 -- each of the names can be read whole
 abbrev pub AreReadable : Option Files → List (List ℕ) → Type 0
 AreReadable held names = (contents : List (List ℕ)) × AreRead held names contents
@@ -61,6 +65,15 @@ Stops names held asked_old asked_new refusal = (calls : List ShelfCall) × Stops
 -- a sound shelf fails only at a name that it doesn't hold
 abbrev pub LacksOne : Option Files → List (List ℕ) → Type 0
 LacksOne held names = IfSome held (λ files. (file : ℕ) × (file < length names) × (files_map.get files (name_at names file) ≡ None))
+
+-- nothing stands under the name, where the shelf tells what it holds
+abbrev pub IsMissing : Option Files → List ℕ → Type 0
+IsMissing held name = IfSome held (λ files. files_map.get files name ≡ None)
+
+-- where the refusal is that the shelf failed at a reading, nothing stands under the name of the very file that it tells
+abbrev pub IsMissingWhereFailed : Option Files → List (List ℕ) → Refusal → Type 0
+IsMissingWhereFailed held names (ReadFailed file) = IsMissing held (name_at names file)
+IsMissingWhereFailed held names _ = Unit {0}
 
 -- the refusal is that the shelf failed at a reading
 abbrev pub IsReadFailed : Refusal → Type 0

@@ -1,18 +1,22 @@
--- Why a call ends without its answer: the status, the line that tells it, and the cause.
-use Rattle.std.specs.Prelude.{◌≡◌, ◌<◌, ℕ, List, [], ◌∷◌, ◌++◌, length, codes, Option, None}
-use Rattle.mre_outside.specs.Shelves.{Files}
-use Rattle.mre_outside.specs.declared.shelf.ShelfCall.{ShelfCall}
+-- Why a call ends without its answer: the status, and the lines that tell it.
+use Rattle.std.specs.Prelude.{◌<◌, ℕ, List, [], ◌∷◌, ◌++◌, length, map, codes, decimal}
 use Rattle.mre_top.specs.declared.refusal.Refusal.{Refusal}
-use Rattle.mre_top.specs.declared.refusal.Refusal.TheVariants.{Usage, ReadFailed, TooLong, Unbuilt, NoMemory}
-use Rattle.mre_top.specs.Requests.{requested, names_of}
-use Rattle.mre_top.specs.Reads.{AreReadable, StopsReading, reads, name_at}
+use Rattle.mre_top.specs.declared.refusal.Refusal.TheVariants.{Usage, ReadFailed, WriteFailed, TooLong, Unbuilt, TooManyDifferences, TooManySteps, NotValid, NotCheapest, NoMemory}
+use Rattle.mre_top.specs.declared.refusal.PlanFault.{PlanFault}
+use Rattle.mre_top.specs.declared.refusal.PlanFault.TheVariants.{StepNeeds, StepHasNoCost, EndsWithout}
+use Rattle.mre_top.specs.Reads.{name_at}
 
 abbrev pub status_of : Refusal → ℕ
 status_of Usage = 2
 status_of (ReadFailed file) = 3
+status_of WriteFailed = 4
 status_of (Unbuilt file) = 5
 status_of (TooLong file) = 7
+status_of (TooManyDifferences found) = 7
+status_of (TooManySteps found) = 7
 status_of NoMemory = 9
+status_of (NotValid fault) = 10
+status_of (NotCheapest cost other steps) = 11
 
 -- a text and a line feed
 abbrev pub line : List ℕ → List ℕ
@@ -22,34 +26,38 @@ line text = text ++ 10 ∷ []
 abbrev pub memory_line : List ℕ
 memory_line = line (codes "mre: out of memory")
 
--- the line that tells a refusal, where the files have these names
+-- the line that tells what is wrong with a plan
+abbrev pub fault_line : PlanFault → List ℕ
+fault_line (StepNeeds step atom) = codes "mre: plan step " ++ (decimal step ++ (codes " needs " ++ line atom))
+fault_line (StepHasNoCost step) = codes "mre: plan step " ++ (decimal step ++ line (codes " has no cost"))
+fault_line (EndsWithout atom) = codes "mre: plan ends without " ++ line atom
+
+-- the first line that tells a refusal, where the files have these names
 abbrev pub line_of : List (List ℕ) → Refusal → List ℕ
 line_of names Usage = line (codes "mre: usage: explain, check, diff, patch, plan-patch or gen")
 line_of names (ReadFailed file) = codes "mre: " ++ (name_at names file ++ line (codes ": read failed"))
+line_of names WriteFailed = line (codes "mre: write failed")
 line_of names (TooLong file) = codes "mre: bytes of " ++ (name_at names file ++ line (codes " 4194305 limit 4194304"))
 line_of names (Unbuilt file) = codes "mre: " ++ (name_at names file ++ line (codes ":1:1: unbuilt"))
+line_of names (TooManyDifferences found) = codes "mre: differences " ++ (decimal found ++ line (codes " limit 256"))
+line_of names (TooManySteps found) = codes "mre: plan steps " ++ (decimal found ++ line (codes " limit 10000"))
+line_of names (NotValid fault) = fault_line fault
+line_of names (NotCheapest cost other steps) =
+    codes "mre: plan costs " ++ (decimal cost ++ (codes ", these lines cost " ++ (decimal other ++ line (codes ":"))))
 line_of names NoMemory = memory_line
+
+-- the further lines: one for each step of a cheaper list
+abbrev pub further_lines : Refusal → List (List ℕ)
+further_lines (NotCheapest cost other steps) = map line steps
+further_lines _ = []
+
+-- the lines that tell a refusal
+abbrev pub lines_of : List (List ℕ) → Refusal → List (List ℕ)
+lines_of names refusal = line_of names refusal ∷ further_lines refusal
 
 -- a refusal that is about a file is about one of these
 abbrev pub IsOfFile : List (List ℕ) → Refusal → Type 0
-IsOfFile names Usage = Unit {0}
 IsOfFile names (ReadFailed file) = file < length names
 IsOfFile names (TooLong file) = file < length names
 IsOfFile names (Unbuilt file) = file < length names
-IsOfFile names NoMemory = Unit {0}
-
--- why a request for these files ended so, where the shelf held this, and what it asked of the shelf until then
-abbrev pub IsCauseFor : List (List ℕ) → Option Files → Refusal → List ShelfCall → Type 0
-IsCauseFor names held Usage calls = ⊥
-IsCauseFor names held (Unbuilt file) calls = (file ≡ 0) × (file < length names) × AreReadable held names × (calls ≡ reads names)
-IsCauseFor names held (ReadFailed file) calls = StopsReading names held (ReadFailed file) calls
-IsCauseFor names held (TooLong file) calls = StopsReading names held (TooLong file) calls
-IsCauseFor names held NoMemory calls = StopsReading names held NoMemory calls
-
--- why a call with these words ended so
-abbrev pub IsCause : List (List ℕ) → Option Files → Refusal → List ShelfCall → Type 0
-IsCause words held Usage calls = (requested words ≡ None) × (calls ≡ [])
-IsCause words held (Unbuilt file) calls = IsCauseFor (names_of words) held (Unbuilt file) calls
-IsCause words held (ReadFailed file) calls = IsCauseFor (names_of words) held (ReadFailed file) calls
-IsCause words held (TooLong file) calls = IsCauseFor (names_of words) held (TooLong file) calls
-IsCause words held NoMemory calls = IsCauseFor (names_of words) held NoMemory calls
+IsOfFile names _ = Unit {0}

@@ -1,27 +1,28 @@
 ghost use Rattle.std.specs.Prelude.{◌≡◌, ℕ, take};
 ghost use Rattle.std.specs.Io.KnownBytes.{Appends};
-ghost use Rattle.mre_top.specs.Refusals.{IsOfFile, line_of, status_of, memory_line};
+ghost use Rattle.mre_top.specs.Refusals.{IsOfFile, memory_line};
 ghost use Rattle.mre_top.specs.Telling.{IsTold};
 
 use crate::Refusal;
+use crate::writing::write_lines;
 use mre_base::{List, Text};
 use mre_outside::{Sink, SinkStop};
 use std::alloc::Global;
 
-/// Tells a refusal on the sink of faults, and gives the status that the call ends with. Where the line finds no memory
+/// Tells a refusal on the sink of faults, and gives the status that the call ends with. Where a line finds no memory
 /// that is the status of want of memory; a write that fails changes nothing of it.
-pub fn tell<E: Sink>(alloc: Global, refusal: Refusal, files: &List<Text>, faults: &mut E) -> u8
-    requires { IsOfFile files.now refusal }
-    ensures { IsTold files.now refusal result (E.written faults.old) (E.written faults.new)
+pub fn tell<E: Sink>(alloc: Global, refusal: &Refusal, files: &List<Text>, faults: &mut E) -> u8
+    requires { IsOfFile files.now refusal.now }
+    ensures { IsTold files.now refusal.now result (E.written faults.old) (E.written faults.new)
         (E.faults faults.old) (E.faults faults.new) }
 {
-    if refusal == Refusal::NoMemory {
+    if matches!(refusal, Refusal::NoMemory) {
         return tell_no_memory(faults);
     }
-    let Ok(line) = refusal.line(alloc, files) else {
+    let Ok(lines) = refusal.lines(alloc, files) else {
         return tell_no_memory(faults);
     };
-    match faults.write_all(line.as_bytes()) {
+    match write_lines(faults, &lines) {
         Ok(()) | Err(SinkStop::Failed) => refusal.status(),
         Err(SinkStop::NoMemory) => tell_no_memory(faults),
     }

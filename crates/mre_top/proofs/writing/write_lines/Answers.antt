@@ -1,0 +1,16 @@
+use Rattle.std.proofs.Common.{arith}
+use Rattle.mre_top.proofs.Lines.{wrote_line, wrote_part}
+use Rattle.mre_top.proofs.writing.write_lines.Goals as goal
+
+pub returns-in-Err-clause-err : goal.returns-in-Err-clause-err
+returns-in-Err-clause-err g c =
+    wrote_part c.args.lines.now c.loop-place.place c.item.result.now c.item.ensures (g.S.Sink.written c.args.sink.now) (g.S.Sink.written c.loop-place.sink)
+    (g.S.Sink.written c.write_line.new.sink) c.loop-place.invariant.written c.in-Err.ensures.err
+
+pub loop-place-preserved : goal.loop-place-preserved
+loop-place-preserved g c = record {
+  written = wrote_line c.args.lines.now c.loop-place.place c.item.result.now c.item.ensures (g.S.Sink.written c.args.sink.now) (g.S.Sink.written c.loop-place.sink)
+      (g.S.Sink.written c.write_line.new.sink) c.loop-place.invariant.written c.in_default.ensures.ok;
+  never_falls = omega (arith, c.loop-place.invariant.never_falls, c.write_line.ensures.never_falls);
+  sound = λ sound. c.write_line.ensures.stays_sound (c.loop-place.invariant.sound sound);
+}

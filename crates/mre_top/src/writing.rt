@@ -1,0 +1,36 @@
+ghost use Rattle.std.specs.Prelude.{◌≡◌, ◌≤◌, OnOk, OnErr, IsErrOf};
+ghost use Rattle.std.specs.List.{concat};
+ghost use Rattle.std.specs.Io.KnownBytes.{Appends};
+ghost use Rattle.mre_outside.specs.Faults.{Rose};
+ghost use Rattle.mre_outside.specs.Sinks.{AppendsPrefix};
+
+use mre_base::{List, Text};
+use mre_outside::{Sink, SinkStop};
+
+/// Writes the lines, one write a line, up to the first that is refused.
+pub fn write_lines<S: Sink>(sink: &mut S, lines: &List<Text>) -> Result<(), SinkStop>
+    ensures ok { OnOk result (Appends (S.written sink.old) (S.written sink.new) (concat lines.now)) }
+    ensures err { OnErr result (AppendsPrefix (S.written sink.old) (S.written sink.new) (concat lines.now)) }
+    ensures failed { IsErrOf result SinkStop.Failed → Rose (S.faults sink.old) (S.faults sink.new) }
+    ensures never_falls { S.faults sink.old ≤ S.faults sink.new }
+    ensures sound { S.is_sound sink.old → ¬ IsErrOf result SinkStop.Failed }
+{
+    for place in 0..lines.len() {
+        if let Err(stop) = write_line(sink, lines.item(place)) {
+            return Err(stop);
+        }
+    }
+    Ok(())
+}
+
+// Writes one line.
+fn write_line<S: Sink>(sink: &mut S, line: &Text) -> Result<(), SinkStop>
+    ensures ok { OnOk result (Appends (S.written sink.old) (S.written sink.new) line.now) }
+    ensures err { OnErr result (AppendsPrefix (S.written sink.old) (S.written sink.new) line.now) }
+    ensures failed { IsErrOf result SinkStop.Failed → Rose (S.faults sink.old) (S.faults sink.new) }
+    ensures never_falls { S.faults sink.old ≤ S.faults sink.new }
+    ensures sound { S.is_sound sink.old → ¬ IsErrOf result SinkStop.Failed }
+    ensures stays_sound { S.is_sound sink.old → S.is_sound sink.new }
+{
+    sink.write_all(line.bytes())
+}
