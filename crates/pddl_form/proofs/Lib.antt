@@ -1,0 +1,14 @@
+pub mod TreeTokens
+pub mod StopLemmas
+pub mod RunLemmas
+pub mod Meetable
+pub mod Least
+pub mod FirstLemmas
+pub mod WordLemmas
+pub mod Derivations
+pub mod Denotes
+pub mod SaidSteps
+pub mod Steps
+pub mod Derived
+pub mod NumberLemmas
+pub mod MetLemmas

@@ -1,0 +1,15 @@
+pub mod Numbers
+pub mod Words
+pub mod Names
+pub mod Rows
+pub mod Typed
+pub mod Domains
+pub mod Actions
+pub mod Problems
+pub mod Table
+pub mod Faults
+pub mod Runs
+pub mod Readings
+pub mod First
+pub mod Grammar
+pub mod Mets
