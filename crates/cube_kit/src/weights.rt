@@ -9,6 +9,9 @@ use std::marker::Model;
 /// The greatest weight of a difference. The least is 1.
 pub const MOST_WEIGHT: u32 = 1000000;
 
+// The limit is the one of the definitions.
+const _: () = prove!(MOST_WEIGHT == 1000000);
+
 /// A weight for each difference, seen as the list of the 256 weights from difference 1 on. No call takes memory.
 #[derive(Drop)]
 pub struct Weights {
@@ -41,7 +44,7 @@ impl Weights {
         requires low { 1 ≤ place }
         requires high { place ≤ 256 }
         requires heavy { 1 ≤ weight }
-        requires light { weight ≤ MOST_WEIGHT }
+        requires light { weight ≤ 1000000 }
         ensures { self.new ≡ slice_set self.old (place - 1) weight }
     {
         self.weights[place as usize - 1] = weight;
