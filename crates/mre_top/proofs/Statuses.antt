@@ -14,7 +14,7 @@ use Rattle.mre_top.specs.Telling.{IsTold}
 use Rattle.mre_top.proofs.Names.{lacks_one}
 
 -- the status is the refusal's, or memory ran out
-pub status_by : (names : List (List ℕ)) (refusal : Refusal) (status : ℕ) (old new : Option (List ℕ)) (before now : ℕ) → IsTold names refusal status old new before now → (status ≡ status_of refusal) ⊎ (status ≡ 9)
+pub status_by : {sound : Type 0} (names : List (List ℕ)) (refusal : Refusal) (status : ℕ) (old new : Option (List ℕ)) (before now : ℕ) → IsTold sound names refusal status old new before now → (status ≡ status_of refusal) ⊎ (status ≡ 9)
 status_by names refusal status old new before now (inl own) = inl own.0
 status_by names refusal status old new before now (inr none) = inr none.0
 
@@ -23,57 +23,57 @@ pub not_zero : (refusal : Refusal) (status : ℕ) → (status ≡ status_of refu
 not_zero NoMemory status by e = elim by [ inl s ↦ omega arith | inr s ↦ omega arith ]
 not_zero _ status by e = elim by [ inl s ↦ omega arith | inr s ↦ omega arith ]
 
-module _ (words : List (List ℕ)) (held : Option Files) (asked_old asked_new : Option (List ShelfCall)) (status : ℕ) (old new : Option (List ℕ)) (before now : ℕ) where
-  ends : (refusal : Refusal) → IsRefused words held asked_old asked_new refusal → IsTold (names_of words) refusal status old new before now → (status ≡ 9 → ⊥) → EndsBy words held old new before now refusal
+module _ (steady : Type 0) (words : List (List ℕ)) (held : Option Files) (asked_old asked_new : Option (List ShelfCall)) (status : ℕ) (old new : Option (List ℕ)) (before now : ℕ) where
+  ends : (refusal : Refusal) → IsRefused words held asked_old asked_new refusal → IsTold steady (names_of words) refusal status old new before now → (status ≡ 9 → ⊥) → EndsBy steady words held old new before now refusal
   ends refusal refused (inl own) not = record { calls = refused.calls; cause = refused.cause; lines = own.1 }
   ends refusal refused (inr none) not = absurd (not none.0)
 
-  by : (refusal : Refusal) → IsTold (names_of words) refusal status old new before now → (status ≡ status_of refusal) ⊎ (status ≡ 9)
+  by : (refusal : Refusal) → IsTold steady (names_of words) refusal status old new before now → (status ≡ status_of refusal) ⊎ (status ≡ 9)
   by refusal = status_by (names_of words) refusal status old new before now
 
-  other : (refusal : Refusal) (k : ℕ) → IsTold (names_of words) refusal status old new before now → status ≡ k → (k ≡ 9 → ⊥) → (status_of refusal ≡ k → ⊥) → ⊥
+  other : (refusal : Refusal) (k : ℕ) → IsTold steady (names_of words) refusal status old new before now → status ≡ k → (k ≡ 9 → ⊥) → (status_of refusal ≡ k → ⊥) → ⊥
   other refusal k told e nine apart = elim (by refusal told) [ inl s ↦ apart (omega arith) | inr s ↦ nine (omega arith) ]
 
-  pub usage : (refusal : Refusal) → IsRefused words held asked_old asked_new refusal → IsTold (names_of words) refusal status old new before now → status ≡ 2 → requested words ≡ None
+  pub usage : (refusal : Refusal) → IsRefused words held asked_old asked_new refusal → IsTold steady (names_of words) refusal status old new before now → status ≡ 2 → requested words ≡ None
   usage Usage refused told e = refused.cause.0
   usage refusal refused told e = absurd (other refusal 2 told e (λ s. omega arith) (λ s. omega arith))
 
-  pub failed_read : (sound : Type 0) (refusal : Refusal) → IsRefused words held asked_old asked_new refusal → IsTold (names_of words) refusal status old new before now
+  pub failed_read : (sound : Type 0) (refusal : Refusal) → IsRefused words held asked_old asked_new refusal → IsTold steady (names_of words) refusal status old new before now
       → (sound → IsMissingWhereFailed held (names_of words) refusal) → status ≡ 3
-      → (file : ℕ) × AsksUpTo (names_of words) asked_old asked_new file × EndsBy words held old new before now (ReadFailed file) × (sound → IsMissing held (name_at (names_of words) file))
+      → (file : ℕ) × AsksUpTo (names_of words) asked_old asked_new file × EndsBy steady words held old new before now (ReadFailed file) × (sound → IsMissing held (name_at (names_of words) file))
   failed_read sound (ReadFailed file) refused told missing e =
       (file, record { within = refused.cause.0; asked = refused.asked ∙ ap (asked_then asked_old) refused.cause.2 }, ends (ReadFailed file) refused told (λ s. omega arith), missing)
   failed_read sound refusal refused told missing e = absurd (other refusal 3 told e (λ s. omega arith) (λ s. omega arith))
 
-  pub lacking : (refusal : Refusal) → IsRefused words held asked_old asked_new refusal → IsTold (names_of words) refusal status old new before now
+  pub lacking : (refusal : Refusal) → IsRefused words held asked_old asked_new refusal → IsTold steady (names_of words) refusal status old new before now
       → IsMissingWhereFailed held (names_of words) refusal → status ≡ 3 → LacksOne held (names_of words)
   lacking (ReadFailed file) refused told missing e = lacks_one held (names_of words) file refused.cause.0 missing
   lacking refusal refused told missing e = absurd (other refusal 3 told e (λ s. omega arith) (λ s. omega arith))
 
-  pub failed_write : (refusal : Refusal) → IsRefused words held asked_old asked_new refusal → IsTold (names_of words) refusal status old new before now → status ≡ 4
-      → EndsBy words held old new before now WriteFailed
+  pub failed_write : (refusal : Refusal) → IsRefused words held asked_old asked_new refusal → IsTold steady (names_of words) refusal status old new before now → status ≡ 4
+      → EndsBy steady words held old new before now WriteFailed
   failed_write WriteFailed refused told e = ends WriteFailed refused told (λ s. omega arith)
   failed_write refusal refused told e = absurd (other refusal 4 told e (λ s. omega arith) (λ s. omega arith))
 
-  pub unbuilt : (refusal : Refusal) → IsRefused words held asked_old asked_new refusal → IsTold (names_of words) refusal status old new before now → status ≡ 5
-      → (file : ℕ) × EndsBy words held old new before now (Unbuilt file)
+  pub unbuilt : (refusal : Refusal) → IsRefused words held asked_old asked_new refusal → IsTold steady (names_of words) refusal status old new before now → status ≡ 5
+      → (file : ℕ) × EndsBy steady words held old new before now (Unbuilt file)
   unbuilt (Unbuilt file) refused told e = (file, ends (Unbuilt file) refused told (λ s. omega arith))
   unbuilt refusal refused told e = absurd (other refusal 5 told e (λ s. omega arith) (λ s. omega arith))
 
-  pub past_limit : (refusal : Refusal) → IsRefused words held asked_old asked_new refusal → IsTold (names_of words) refusal status old new before now → status ≡ 7
-      → (why : Refusal) × IsPastLimit why × EndsBy words held old new before now why
+  pub past_limit : (refusal : Refusal) → IsRefused words held asked_old asked_new refusal → IsTold steady (names_of words) refusal status old new before now → status ≡ 7
+      → (why : Refusal) × IsPastLimit why × EndsBy steady words held old new before now why
   past_limit (TooLong file) refused told e = (TooLong file, tt, ends (TooLong file) refused told (λ s. omega arith))
   past_limit (TooManyDifferences found) refused told e = (TooManyDifferences found, tt, ends (TooManyDifferences found) refused told (λ s. omega arith))
   past_limit (TooManySteps found) refused told e = (TooManySteps found, tt, ends (TooManySteps found) refused told (λ s. omega arith))
   past_limit refusal refused told e = absurd (other refusal 7 told e (λ s. omega arith) (λ s. omega arith))
 
-  pub not_valid : (refusal : Refusal) → IsRefused words held asked_old asked_new refusal → IsTold (names_of words) refusal status old new before now → status ≡ 10
-      → (fault : PlanFault) × EndsBy words held old new before now (NotValid fault)
+  pub not_valid : (refusal : Refusal) → IsRefused words held asked_old asked_new refusal → IsTold steady (names_of words) refusal status old new before now → status ≡ 10
+      → (fault : PlanFault) × EndsBy steady words held old new before now (NotValid fault)
   not_valid (NotValid fault) refused told e = (fault, ends (NotValid fault) refused told (λ s. omega arith))
   not_valid refusal refused told e = absurd (other refusal 10 told e (λ s. omega arith) (λ s. omega arith))
 
-  pub not_cheapest : (refusal : Refusal) → IsRefused words held asked_old asked_new refusal → IsTold (names_of words) refusal status old new before now → status ≡ 11
-      → (cost less : ℕ) × (steps : List (List ℕ)) × EndsBy words held old new before now (NotCheapest cost less steps)
+  pub not_cheapest : (refusal : Refusal) → IsRefused words held asked_old asked_new refusal → IsTold steady (names_of words) refusal status old new before now → status ≡ 11
+      → (cost less : ℕ) × (steps : List (List ℕ)) × EndsBy steady words held old new before now (NotCheapest cost less steps)
   not_cheapest (NotCheapest cost less steps) refused told e = (cost, less, steps, ends (NotCheapest cost less steps) refused told (λ s. omega arith))
   not_cheapest refusal refused told e = absurd (other refusal 11 told e (λ s. omega arith) (λ s. omega arith))
 

@@ -10,10 +10,10 @@ use Rattle.mre_top.specs.Causes.{IsCause}
 use Rattle.mre_top.specs.Telling.{IsWritten, told_by}
 
 -- the refusal has its cause, and its lines were written on the sink of faults
-pub record EndsBy (words : List (List ℕ)) (held : Option Files) (old new : Option (List ℕ)) (faults_old faults_new : ℕ) (refusal : Refusal) : Type 0 where
+pub record EndsBy (sound : Type 0) (words : List (List ℕ)) (held : Option Files) (old new : Option (List ℕ)) (faults_old faults_new : ℕ) (refusal : Refusal) : Type 0 where
   pub calls : List ShelfCall
   pub cause : IsCause words held refusal calls
-  pub lines : IsWritten (told_by (names_of words) refusal) old new faults_old faults_new
+  pub lines : IsWritten sound (told_by (names_of words) refusal) old new faults_old faults_new
 
 -- the refusal is that a count is past its limit
 abbrev pub IsPastLimit : Refusal → Type 0

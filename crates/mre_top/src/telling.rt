@@ -13,7 +13,7 @@ use std::alloc::Global;
 /// that is the status of want of memory; a write that fails changes nothing of it.
 pub fn tell<E: Sink>(alloc: Global, refusal: &Refusal, files: &List<Text>, faults: &mut E) -> u8
     requires { IsOfFile files.now refusal.now }
-    ensures { IsTold files.now refusal.now result (E.written faults.old) (E.written faults.new)
+    ensures { IsTold (E.is_sound faults.old) files.now refusal.now result (E.written faults.old) (E.written faults.new)
         (E.faults faults.old) (E.faults faults.new) }
 {
     if matches!(refusal, Refusal::NoMemory) {

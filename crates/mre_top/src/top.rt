@@ -67,7 +67,7 @@ pub fn explain_top<H: Shelf, S: Sink, E: Sink>(
     ensures refused { result.status ≢ 0 → (refusal : Refusal)
         × IsRefused (map string_bytes words.now) (H.held shelf.old) (H.asked shelf.old) (H.asked shelf.new) refusal
         × Leaves S.written (names_of (map string_bytes words.now)) (H.held shelf.old) out.old out.new refusal
-        × IsTold (names_of (map string_bytes words.now)) refusal result.status
+        × IsTold (E.is_sound faults.old) (names_of (map string_bytes words.now)) refusal result.status
         (E.written faults.old) (E.written faults.new) (E.faults faults.old) (E.faults faults.new)
         × (H.is_sound shelf.old
         → IsMissingWhereFailed (H.held shelf.old) (names_of (map string_bytes words.now)) refusal) }
@@ -81,16 +81,16 @@ pub fn explain_top<H: Shelf, S: Sink, E: Sink>(
     ensures cut_short { result.status ≡ 4 → IsCutShort (names_of (map string_bytes words.now))
         (H.held shelf.old) (S.written out.old) (S.written out.new) }
     ensures unbuilt { result.status ≡ 5 → (file : ℕ)
-        × EndsBy (map string_bytes words.now) (H.held shelf.old) (E.written faults.old) (E.written faults.new)
+        × EndsBy (E.is_sound faults.old) (map string_bytes words.now) (H.held shelf.old) (E.written faults.old) (E.written faults.new)
         (E.faults faults.old) (E.faults faults.new) (Unbuilt file) }
     ensures past_limit { result.status ≡ 7 → (refusal : Refusal) × IsPastLimit refusal
-        × EndsBy (map string_bytes words.now) (H.held shelf.old) (E.written faults.old) (E.written faults.new)
+        × EndsBy (E.is_sound faults.old) (map string_bytes words.now) (H.held shelf.old) (E.written faults.old) (E.written faults.new)
         (E.faults faults.old) (E.faults faults.new) refusal }
     ensures not_valid { result.status ≡ 10 → (fault : PlanFault)
-        × EndsBy (map string_bytes words.now) (H.held shelf.old) (E.written faults.old) (E.written faults.new)
+        × EndsBy (E.is_sound faults.old) (map string_bytes words.now) (H.held shelf.old) (E.written faults.old) (E.written faults.new)
         (E.faults faults.old) (E.faults faults.new) (NotValid fault) }
     ensures not_cheapest { result.status ≡ 11 → (cost other : ℕ) × (steps : ListOf (ListOf ℕ))
-        × EndsBy (map string_bytes words.now) (H.held shelf.old) (E.written faults.old) (E.written faults.new)
+        × EndsBy (E.is_sound faults.old) (map string_bytes words.now) (H.held shelf.old) (E.written faults.old) (E.written faults.new)
         (E.faults faults.old) (E.faults faults.new) (NotCheapest cost other steps) }
 
     // The other way, where the shelf tells: what the files say settles the status, but for a failed read and want
@@ -114,7 +114,7 @@ pub fn explain_top<H: Shelf, S: Sink, E: Sink>(
         (H.asked shelf.old) (H.asked shelf.new) result.status }
     ensures asked_in_vain { result.status ≡ 3 → (file : ℕ)
         × AsksUpTo (names_of (map string_bytes words.now)) (H.asked shelf.old) (H.asked shelf.new) file
-        × EndsBy (map string_bytes words.now) (H.held shelf.old) (E.written faults.old) (E.written faults.new)
+        × EndsBy (E.is_sound faults.old) (map string_bytes words.now) (H.held shelf.old) (E.written faults.old) (E.written faults.new)
         (E.faults faults.old) (E.faults faults.new) (ReadFailed file)
         × (H.is_sound shelf.old
         → IsMissing (H.held shelf.old) (name_at (names_of (map string_bytes words.now)) file)) }
@@ -148,7 +148,7 @@ fn run<H: Shelf, S: Sink, E: Sink>(
     ensures refused { IfNone result.answer ((refusal : Refusal)
         × IsRefused (map string_bytes words.now) (H.held shelf.old) (H.asked shelf.old) (H.asked shelf.new) refusal
         × Leaves S.written (names_of (map string_bytes words.now)) (H.held shelf.old) out.old out.new refusal
-        × IsTold (names_of (map string_bytes words.now)) refusal result.status
+        × IsTold (E.is_sound faults.old) (names_of (map string_bytes words.now)) refusal result.status
         (E.written faults.old) (E.written faults.new) (E.faults faults.old) (E.faults faults.new)
         × (H.is_sound shelf.old
         → IsMissingWhereFailed (H.held shelf.old) (names_of (map string_bytes words.now)) refusal)) }
@@ -185,7 +185,7 @@ fn answer_request<H: Shelf, S: Sink, E: Sink>(
     ensures refused { IfNone result.answer ((refusal : Refusal)
         × IsServed files.now (H.held shelf.old) (H.asked shelf.old) (H.asked shelf.new) refusal
         × Leaves S.written files.now (H.held shelf.old) out.old out.new refusal
-        × IsTold files.now refusal result.status
+        × IsTold (E.is_sound faults.old) files.now refusal result.status
         (E.written faults.old) (E.written faults.new) (E.faults faults.old) (E.faults faults.new)
         × (H.is_sound shelf.old → IsMissingWhereFailed (H.held shelf.old) files.now refusal)) }
     ensures read_failed { result.status ≡ 3 → Rose (H.faults shelf.old) (H.faults shelf.new) }
@@ -247,7 +247,7 @@ fn serve<H: Shelf, S: Sink>(
 
 fn refuse<E: Sink>(alloc: Global, refusal: &Refusal, files: &List<Text>, faults: &mut E) -> Outcome
     requires { IsOfFile files.now refusal.now }
-    ensures told { IsTold files.now refusal.now result.status (E.written faults.old) (E.written faults.new)
+    ensures told { IsTold (E.is_sound faults.old) files.now refusal.now result.status (E.written faults.old) (E.written faults.new)
         (E.faults faults.old) (E.faults faults.new) }
     ensures answer { IsNone result.answer }
     ensures log { result.log ≡ record { limit = 200000; nodes = [] } }

@@ -53,7 +53,7 @@ returns-clause-usage g c e =
     let ended = either c.run.result.answer _ _ c.run.ensures.answered c.run.ensures.refused in
     elim ended [
       | inl some ↦ absurd (let zero = (where_some c.run.result.answer _ some.0 some.1 c.run.ensures.zero) in omega arith)
-      | inr none ↦ status.usage words held (g.H.Shelf.asked c.args.shelf.now) (g.H.Shelf.asked c.run.new.shelf) c.run.result.status (g.E.Sink.written c.args.faults.now) (g.E.Sink.written c.run.new.faults) (g.E.Sink.faults c.args.faults.now) (g.E.Sink.faults c.run.new.faults) none.1.0 none.1.1 none.1.3 e
+      | inr none ↦ status.usage (g.E.Sink.is_sound c.args.faults.now) words held (g.H.Shelf.asked c.args.shelf.now) (g.H.Shelf.asked c.run.new.shelf) c.run.result.status (g.E.Sink.written c.args.faults.now) (g.E.Sink.written c.run.new.faults) (g.E.Sink.faults c.args.faults.now) (g.E.Sink.faults c.run.new.faults) none.1.0 none.1.1 none.1.3 e
     ]
 
 pub returns-clause-unbuilt : goal.returns-clause-unbuilt
@@ -63,7 +63,7 @@ returns-clause-unbuilt g c e =
     let ended = either c.run.result.answer _ _ c.run.ensures.answered c.run.ensures.refused in
     elim ended [
       | inl some ↦ absurd (let zero = (where_some c.run.result.answer _ some.0 some.1 c.run.ensures.zero) in omega arith)
-      | inr none ↦ status.unbuilt words held (g.H.Shelf.asked c.args.shelf.now) (g.H.Shelf.asked c.run.new.shelf) c.run.result.status (g.E.Sink.written c.args.faults.now) (g.E.Sink.written c.run.new.faults) (g.E.Sink.faults c.args.faults.now) (g.E.Sink.faults c.run.new.faults) none.1.0 none.1.1 none.1.3 e
+      | inr none ↦ status.unbuilt (g.E.Sink.is_sound c.args.faults.now) words held (g.H.Shelf.asked c.args.shelf.now) (g.H.Shelf.asked c.run.new.shelf) c.run.result.status (g.E.Sink.written c.args.faults.now) (g.E.Sink.written c.run.new.faults) (g.E.Sink.faults c.args.faults.now) (g.E.Sink.faults c.run.new.faults) none.1.0 none.1.1 none.1.3 e
     ]
 
 pub returns-clause-past_limit : goal.returns-clause-past_limit
@@ -73,7 +73,7 @@ returns-clause-past_limit g c e =
     let ended = either c.run.result.answer _ _ c.run.ensures.answered c.run.ensures.refused in
     elim ended [
       | inl some ↦ absurd (let zero = (where_some c.run.result.answer _ some.0 some.1 c.run.ensures.zero) in omega arith)
-      | inr none ↦ status.past_limit words held (g.H.Shelf.asked c.args.shelf.now) (g.H.Shelf.asked c.run.new.shelf) c.run.result.status (g.E.Sink.written c.args.faults.now) (g.E.Sink.written c.run.new.faults) (g.E.Sink.faults c.args.faults.now) (g.E.Sink.faults c.run.new.faults) none.1.0 none.1.1 none.1.3 e
+      | inr none ↦ status.past_limit (g.E.Sink.is_sound c.args.faults.now) words held (g.H.Shelf.asked c.args.shelf.now) (g.H.Shelf.asked c.run.new.shelf) c.run.result.status (g.E.Sink.written c.args.faults.now) (g.E.Sink.written c.run.new.faults) (g.E.Sink.faults c.args.faults.now) (g.E.Sink.faults c.run.new.faults) none.1.0 none.1.1 none.1.3 e
     ]
 
 pub returns-clause-not_valid : goal.returns-clause-not_valid
@@ -83,7 +83,7 @@ returns-clause-not_valid g c e =
     let ended = either c.run.result.answer _ _ c.run.ensures.answered c.run.ensures.refused in
     elim ended [
       | inl some ↦ absurd (let zero = (where_some c.run.result.answer _ some.0 some.1 c.run.ensures.zero) in omega arith)
-      | inr none ↦ status.not_valid words held (g.H.Shelf.asked c.args.shelf.now) (g.H.Shelf.asked c.run.new.shelf) c.run.result.status (g.E.Sink.written c.args.faults.now) (g.E.Sink.written c.run.new.faults) (g.E.Sink.faults c.args.faults.now) (g.E.Sink.faults c.run.new.faults) none.1.0 none.1.1 none.1.3 e
+      | inr none ↦ status.not_valid (g.E.Sink.is_sound c.args.faults.now) words held (g.H.Shelf.asked c.args.shelf.now) (g.H.Shelf.asked c.run.new.shelf) c.run.result.status (g.E.Sink.written c.args.faults.now) (g.E.Sink.written c.run.new.faults) (g.E.Sink.faults c.args.faults.now) (g.E.Sink.faults c.run.new.faults) none.1.0 none.1.1 none.1.3 e
     ]
 
 pub returns-clause-not_cheapest : goal.returns-clause-not_cheapest
@@ -93,7 +93,7 @@ returns-clause-not_cheapest g c e =
     let ended = either c.run.result.answer _ _ c.run.ensures.answered c.run.ensures.refused in
     elim ended [
       | inl some ↦ absurd (let zero = (where_some c.run.result.answer _ some.0 some.1 c.run.ensures.zero) in omega arith)
-      | inr none ↦ status.not_cheapest words held (g.H.Shelf.asked c.args.shelf.now) (g.H.Shelf.asked c.run.new.shelf) c.run.result.status (g.E.Sink.written c.args.faults.now) (g.E.Sink.written c.run.new.faults) (g.E.Sink.faults c.args.faults.now) (g.E.Sink.faults c.run.new.faults) none.1.0 none.1.1 none.1.3 e
+      | inr none ↦ status.not_cheapest (g.E.Sink.is_sound c.args.faults.now) words held (g.H.Shelf.asked c.args.shelf.now) (g.H.Shelf.asked c.run.new.shelf) c.run.result.status (g.E.Sink.written c.args.faults.now) (g.E.Sink.written c.run.new.faults) (g.E.Sink.faults c.args.faults.now) (g.E.Sink.faults c.run.new.faults) none.1.0 none.1.1 none.1.3 e
     ]
 
 pub returns-clause-cut_short : goal.returns-clause-cut_short
@@ -174,7 +174,7 @@ returns-clause-asked_in_vain g c e =
     let ended = either c.run.result.answer _ _ c.run.ensures.answered c.run.ensures.refused in
     elim ended [
       | inl some ↦ absurd (let zero = (where_some c.run.result.answer _ some.0 some.1 c.run.ensures.zero) in omega arith)
-      | inr none ↦ status.failed_read words held (g.H.Shelf.asked c.args.shelf.now) (g.H.Shelf.asked c.run.new.shelf) c.run.result.status (g.E.Sink.written c.args.faults.now) (g.E.Sink.written c.run.new.faults) (g.E.Sink.faults c.args.faults.now) (g.E.Sink.faults c.run.new.faults) (g.H.Shelf.is_sound c.args.shelf.now) none.1.0 none.1.1 none.1.3 none.1.4 e
+      | inr none ↦ status.failed_read (g.E.Sink.is_sound c.args.faults.now) words held (g.H.Shelf.asked c.args.shelf.now) (g.H.Shelf.asked c.run.new.shelf) c.run.result.status (g.E.Sink.written c.args.faults.now) (g.E.Sink.written c.run.new.faults) (g.E.Sink.faults c.args.faults.now) (g.E.Sink.faults c.run.new.faults) (g.H.Shelf.is_sound c.args.shelf.now) none.1.0 none.1.1 none.1.3 none.1.4 e
     ]
 
 pub returns-clause-sound : goal.returns-clause-sound
@@ -184,5 +184,5 @@ returns-clause-sound g c sound e =
     let ended = either c.run.result.answer _ _ c.run.ensures.answered c.run.ensures.refused in
     elim ended [
       | inl some ↦ absurd (let zero = (where_some c.run.result.answer _ some.0 some.1 c.run.ensures.zero) in omega arith)
-      | inr none ↦ status.lacking words held (g.H.Shelf.asked c.args.shelf.now) (g.H.Shelf.asked c.run.new.shelf) c.run.result.status (g.E.Sink.written c.args.faults.now) (g.E.Sink.written c.run.new.faults) (g.E.Sink.faults c.args.faults.now) (g.E.Sink.faults c.run.new.faults) none.1.0 none.1.1 none.1.3 (none.1.4 sound) e
+      | inr none ↦ status.lacking (g.E.Sink.is_sound c.args.faults.now) words held (g.H.Shelf.asked c.args.shelf.now) (g.H.Shelf.asked c.run.new.shelf) c.run.result.status (g.E.Sink.written c.args.faults.now) (g.E.Sink.written c.run.new.faults) (g.E.Sink.faults c.args.faults.now) (g.E.Sink.faults c.run.new.faults) none.1.0 none.1.1 none.1.3 (none.1.4 sound) e
     ]

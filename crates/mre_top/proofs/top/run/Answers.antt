@@ -18,7 +18,7 @@ returns-in-Ok-clause-refused g c =
       served.0,
       IsRefused-served words c.in-Ok.request.files (g.H.Shelf.held c.args.shelf.now) (g.H.Shelf.asked c.args.shelf.now) (g.H.Shelf.asked c.answer_request.new.shelf) served.0 named served.1,
       subst (λ names. Leaves g.S.Sink.written names (g.H.Shelf.held c.args.shelf.now) c.args.out.now c.answer_request.new.out served.0) (sym named) served.2,
-      subst (λ names. IsTold names served.0 c.answer_request.result.status (g.E.Sink.written c.args.faults.now) (g.E.Sink.written c.answer_request.new.faults) (g.E.Sink.faults c.args.faults.now) (g.E.Sink.faults c.answer_request.new.faults)) (sym named) served.3,
+      subst (λ names. IsTold (g.E.Sink.is_sound c.args.faults.now) names served.0 c.answer_request.result.status (g.E.Sink.written c.args.faults.now) (g.E.Sink.written c.answer_request.new.faults) (g.E.Sink.faults c.args.faults.now) (g.E.Sink.faults c.answer_request.new.faults)) (sym named) served.3,
       λ sound. subst (λ names. IsMissingWhereFailed (g.H.Shelf.held c.args.shelf.now) names served.0) (sym named) (served.4 sound),
     ))
 
