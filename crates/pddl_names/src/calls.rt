@@ -1,0 +1,5 @@
+/// A function at objects: its name and theirs.
+#[derive(Drop, PartialEq, Eq, PartialOrd, Ord)]
+pub(crate) struct Call {
+    pub(crate) words: Vec<String>,
+}

@@ -1,0 +1,13 @@
+use crate::firsts::TypedList;
+use crate::forests::Node;
+
+/// The types with their parents, by number. Also a parent that isn't listed itself has a number, and
+/// `object` has one.
+#[derive(Drop)]
+pub struct TypeTree {
+    pub names: TypedList,
+    /// The number of the parent of each.
+    pub ups: Vec<u32>,
+    /// What is known of each in the forest of parents.
+    pub nodes: Vec<Node>,
+}

@@ -1,5 +1,0 @@
-use Rattle.pddl_read.proofs.TableLemmas.{IsTableFrom}
-use Rattle.pddl_read.proofs.names.NameTable.of.Given as goal
-
-abbrev pub invariant-loop-place : goal.invariant-loop-place
-invariant-loop-place g l = IsTableFrom g.T.Named.name_of l.entries l.place l.table

@@ -1,5 +1,0 @@
-use Rattle.pddl_read.proofs.KindLemmas.{ArePlacesFrom}
-use Rattle.pddl_read.proofs.names.NameTable.of_kind.Given as goal
-
-abbrev pub invariant-loop-place : goal.invariant-loop-place
-invariant-loop-place l = ArePlacesFrom l.kind l.words l.place l.table

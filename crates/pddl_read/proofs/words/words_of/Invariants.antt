@@ -1,6 +1,0 @@
-use Rattle.std.proofs.Common.{◌≡◌, map, take}
-use Rattle.pddl_read.specs.Roles.{word_of}
-use Rattle.pddl_read.proofs.words.words_of.Given as goal
-
-abbrev pub invariant-loop-place : goal.invariant-loop-place
-invariant-loop-place l = l.made ≡ map word_of (take l.place l.met)
