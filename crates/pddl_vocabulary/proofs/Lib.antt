@@ -1,0 +1,11 @@
+pub mod FirstsLemmas
+pub mod GatherLemmas
+pub mod EntryLemmas
+pub mod ObjectLemmas
+pub mod SignatureLemmas
+pub mod PigeonLemmas
+pub mod ChainLemmas
+pub mod TypeSound
+pub mod FormedLemmas
+pub mod VocabularyVectors
+pub mod FewLemmas

@@ -1,0 +1,10 @@
+use Rattle.std.proofs.Common.{refl}
+use Rattle.pddl_vocabulary.proofs.VocabularyVectors.{are_few, are_formed, are_named}
+use Rattle.pddl_vocabulary.proofs.vocabulary_tests.actions_first.Goals as goal
+
+pub returns : goal.returns
+returns c = record {
+  few = are_few c.words.result _ c.words.ensures.ok refl;
+  formed = are_formed c.words.result _ c.words.ensures.ok refl;
+  named = are_named c.words.result _ c.words.ensures.ok refl;
+}

@@ -1,0 +1,5 @@
+pub mod Values
+pub mod Formed
+pub mod VocabularyFirsts
+pub mod VocabularyTypes
+pub mod VocabularyLists

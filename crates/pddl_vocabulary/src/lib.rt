@@ -1,0 +1,14 @@
+//! The vocabulary that the words of a domain say, and that of a problem behind its domain's.
+#![tactic(auto)]
+
+mod formed;
+mod vocabularies;
+mod vocabulary_copies;
+mod vocabulary_firsts;
+mod vocabulary_lists;
+#[cfg(test)]
+mod vocabulary_tests;
+mod vocabulary_types;
+
+pub use formed::law_formed;
+pub use vocabularies::{vocabulary_of, vocabulary_with};
