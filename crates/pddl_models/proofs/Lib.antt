@@ -1,0 +1,14 @@
+pub mod KeptLemmas
+pub mod SayingLemmas
+pub mod PlaceInLemmas
+pub mod RepeatLemmas
+pub mod AgreeLemmas
+pub mod DueLemmas
+pub mod DomainLemmas
+pub mod BodyLemmas
+pub mod CountedLemmas
+pub mod ProblemLemmas
+pub mod FactLemmas
+pub mod SchemaLemmas
+pub mod ModelLemmas
+pub mod RoleLemmas

@@ -1,0 +1,5 @@
+pub mod Bodies
+pub mod Saying
+pub mod Unrepeated
+pub mod WordTables
+pub mod Says

@@ -1,0 +1,15 @@
+ghost use Rattle.std.specs.Prelude.{IsTrue};
+ghost use Rattle.pddl_models.specs.Bodies.{are_bodies};
+
+use crate::body::Body;
+use model_kit::Vocabulary;
+use mre_base::List;
+
+/// A domain: its words, and what each action needs, adds and deletes and how it raises the cost.
+#[derive(Debug, Drop)]
+pub struct Domain {
+    pub words: Vocabulary,
+    /// One body for each action of the words, in their order.
+    pub bodies: List<Body>,
+    pub ghost sound: { IsTrue (are_bodies words bodies) },
+}
