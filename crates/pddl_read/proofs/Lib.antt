@@ -1,0 +1,5 @@
+pub mod Once
+pub mod Stopped
+pub mod Few
+pub mod DomainTexts
+pub mod ProblemTexts

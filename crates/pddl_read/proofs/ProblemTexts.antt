@@ -1,0 +1,43 @@
+-- Behind a domain a text is of one model at most, or has one first fault, never both; so an answer that is right is the only one.
+use Rattle.std.proofs.Common.{◌≡◌, ℕ, List, Result, Ok, Err, subst}
+use Rattle.std.specs.Prelude.{IfOk}
+use Rattle.pddl_text.specs.declared.fault.TextFault.{TextFault}
+use Rattle.pddl_text.specs.declared.fault.ReadStop.{ReadStop}
+use Rattle.pddl_text.specs.declared.fault.ReadStop.TheVariants as stop
+use Rattle.pddl_text.specs.Answers.{IfFault, AnswersOk, AnswersFault}
+use Rattle.pddl_text.proofs.ExactLemmas.{IsExact, same_value, same_fault, never_both}
+use Rattle.model_kit.specs.declared.model.Model.{Model}
+use Rattle.pddl_form.specs.First.{problem}
+use Rattle.pddl_form.specs.declared.parts.Part.TheVariants as part
+use Rattle.pddl_names.specs.Listings.{Declared}
+use Rattle.pddl_names.specs.Texts.{IsSaid, IsUnsaid, said_of, declared_by}
+use Rattle.pddl_names.proofs.TextLemmas.{said_exact}
+use Rattle.pddl_models.specs.declared.domain.Domain.{Domain}
+use Rattle.pddl_models.specs.Says.{SaysModel}
+use Rattle.pddl_read.specs.Texts.{IsProblemText, IsProblemFault}
+use Rattle.pddl_read.proofs.Once.{model_once}
+
+module _ (behind : Domain) (bytes : List ℕ) where
+  exact : IsExact (said_of part.Problem (declared_by behind.words) bytes) (IsSaid part.Problem (declared_by behind.words) bytes) (IsUnsaid part.Problem (declared_by behind.words) bytes)
+  exact = said_exact part.Problem problem (declared_by behind.words) bytes
+
+  pub one_model : (a b : Model) → IsProblemText behind bytes a → IsProblemText behind bytes b → a ≡ b
+  one_model a b one two =
+      let same = same_value (said_of part.Problem (declared_by behind.words) bytes) (IsSaid part.Problem (declared_by behind.words) bytes) (IsUnsaid part.Problem (declared_by behind.words) bytes) exact two.said one.said two.text one.text in
+      model_once behind one.said a b one.says (subst (λ said. SaysModel behind said b) same two.says)
+
+  pub one_fault : (a b : TextFault) → IsProblemFault behind bytes a → IsProblemFault behind bytes b → a ≡ b
+  one_fault = same_fault (said_of part.Problem (declared_by behind.words) bytes) (IsSaid part.Problem (declared_by behind.words) bytes) (IsUnsaid part.Problem (declared_by behind.words) bytes) exact
+
+  pub not_both : (a : Model) (fault : TextFault) → IsProblemText behind bytes a → IsProblemFault behind bytes fault → ⊥
+  not_both a fault is = never_both (said_of part.Problem (declared_by behind.words) bytes) (IsSaid part.Problem (declared_by behind.words) bytes) (IsUnsaid part.Problem (declared_by behind.words) bytes) exact is.said fault is.text
+
+  pub answered : (result : Result Model ReadStop) → IfOk result (IsProblemText behind bytes) → IfFault result (IsProblemFault behind bytes) → (a : Model) → IsProblemText behind bytes a → AnswersOk result a
+  answered (Ok found) ok fault a is = one_model found a ok is
+  answered (Err (stop.Fault found)) ok fault a is = not_both a found is fault
+  answered (Err stop.NoMemory) ok fault a is = tt
+
+  pub told : (result : Result Model ReadStop) → IfOk result (IsProblemText behind bytes) → IfFault result (IsProblemFault behind bytes) → (f : TextFault) → IsProblemFault behind bytes f → AnswersFault result f
+  told (Ok found) ok fault f is = not_both found f ok is
+  told (Err (stop.Fault found)) ok fault f is = one_fault found f fault is
+  told (Err stop.NoMemory) ok fault f is = tt
