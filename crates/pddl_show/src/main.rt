@@ -1,0 +1,87 @@
+//! A small program over the readers of PDDL: prints what a domain, a problem or a plan holds, or its first fault.
+#![tactic(auto)]
+
+mod forms;
+mod models;
+mod reading;
+mod rules;
+
+use mre_base::NoMemory;
+use mre_outside::{FileShelf, Sink, StdSink};
+use reading::{Stop, read_texts};
+use std::alloc::Global;
+use std::env;
+use std::process::ExitCode;
+
+/// The statuses of `mre`: usage, a failed read, a failed write, a fault, a file past its limit, want of memory.
+const USAGE: u8 = 2;
+
+const READ_FAILED: u8 = 3;
+
+const WRITE_FAILED: u8 = 4;
+
+const FAULT: u8 = 5;
+
+const PAST_LIMIT: u8 = 7;
+
+const NO_MEMORY: u8 = 9;
+
+// The line that tells why a text was not read, and the status that the program ends with.
+fn line_of(alloc: Global, stop: &Stop, names: &[String]) -> Result<(String, u8), NoMemory> {
+    match stop {
+        Stop::Usage => {
+            let line = format!(in alloc; "mre: usage: pddl_show DOMAIN [PROBLEM [PLAN]]\n")?;
+            Ok((line, USAGE))
+        }
+        Stop::ReadFailed { file } => {
+            let name = name_at(names, *file);
+            Ok((
+                format!(in alloc; "mre: {name}: read failed\n")?,
+                READ_FAILED,
+            ))
+        }
+        Stop::TooLong { file } => {
+            let name = name_at(names, *file);
+            let line = format!(in alloc; "mre: bytes of {name} 4194305 limit 4194304\n")?;
+            Ok((line, PAST_LIMIT))
+        }
+        Stop::Fault { file, fault } => {
+            let line = rules::line_of(alloc, name_at(names, *file), fault)?;
+            Ok((line, FAULT))
+        }
+        Stop::NoMemory => Err(NoMemory),
+    }
+}
+
+fn name_at(names: &[String], file: usize) -> &str {
+    match names.get(file) {
+        Some(name) => name.as_str(),
+        None => "",
+    }
+}
+
+fn main(rt: HostRuntime) -> ExitCode {
+    let alloc = rt.alloc();
+    let Ok(mut arguments) = env::args(&rt) else {
+        return ExitCode::from(USAGE);
+    };
+    let _program = arguments.next();
+    let Ok(names) = arguments.collect::<Vec<String>>(alloc) else {
+        return ExitCode::from(NO_MEMORY);
+    };
+    let mut out = StdSink::output(rt.stdout());
+    let mut errors = StdSink::errors(rt.stderr());
+    match read_texts(alloc, names.as_slice(), &mut FileShelf::new(alloc, &rt)) {
+        Ok(text) => match out.write_all(text.as_bytes()) {
+            Ok(()) => ExitCode::from(0),
+            Err(_) => ExitCode::from(WRITE_FAILED),
+        },
+        Err(stop) => match line_of(alloc, &stop, names.as_slice()) {
+            Ok((line, status)) => {
+                let _ = errors.write_all(line.as_bytes());
+                ExitCode::from(status)
+            }
+            Err(_) => ExitCode::from(NO_MEMORY),
+        },
+    }
+}
