@@ -14,7 +14,7 @@ pub record Log : Type 0 where
 abbrev pub log_code : Coded Log
 log_code = code_by (ℕ × List Node) (coded× coded_ℕ (coded_list the_row.coded)) (λ log. (log.limit, log.nodes)) (λ pair. record { limit = pair.0; nodes = pair.1 }) (λ _. refl)
 
--- there are at most as many nodes as the limit says, and no two are equal
+-- there are at most as many nodes as the limit says, and it is a number of 32 bits
 pub record IsWithinLimit (limit : ℕ) (nodes : List Node) : Type 0 where
   pub few : length nodes ≤ limit
   pub fits : limit < 2 ^ 32

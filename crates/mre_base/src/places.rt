@@ -10,6 +10,8 @@ use std::marker::Model;
 /// The greatest number that a difference may have. They are counted from 1.
 pub const MOST_PLACES: u32 = 256;
 
+const _: () = prove!(MOST_PLACES == 256);
+
 /// A set of difference numbers, 1 to 256, in four words. No call takes memory.
 #[derive(Debug, Drop)]
 pub struct Places {
@@ -39,7 +41,7 @@ impl Places {
 
     pub fn has(&self, place: u32) -> bool
         requires low { 1 ≤ place }
-        requires high { place ≤ MOST_PLACES }
+        requires high { place ≤ 256 }
         ensures { result ≡ set.contains self.now place }
     {
         words::has(&self.words, place - 1)
@@ -48,7 +50,7 @@ impl Places {
     /// The set with one number more, or the same set where it has the number.
     pub fn with(&self, place: u32) -> Places
         requires low { 1 ≤ place }
-        requires high { place ≤ MOST_PLACES }
+        requires high { place ≤ 256 }
         ensures { result ≡ set.insert self.now place }
     {
         let mut words = self.words;
@@ -59,7 +61,7 @@ impl Places {
     /// The set without one number.
     pub fn without(&self, place: u32) -> Places
         requires low { 1 ≤ place }
-        requires high { place ≤ MOST_PLACES }
+        requires high { place ≤ 256 }
         ensures { result ≡ set.remove self.now place }
     {
         let mut words = self.words;
