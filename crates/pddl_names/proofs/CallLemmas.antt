@@ -1,14 +1,13 @@
 -- The first value of a call is found by a table of the calls, and its number is compared.
-use Rattle.std.proofs.Common.{◌≡◌, ℕ, ◌+◌, ◌-◌, ◌<◌, ◌≤◌, ◌&&◌, ◌≢◌, zero, suc, Bool, true, false, cond, Some, None, Option, List, [], ◌∷◌, ◌++◌, length, take, drop, map, Ordering, Less, Equal, Greater, String, Global, get_or, get_or-set_other, get_or-set_same, length-drop, length-take, refl, sym, ap, ◌∙◌, arith, ⊎_elim}
+use Rattle.std.proofs.Common.{◌≡◌, ℕ, ◌+◌, ◌-◌, ◌<◌, ◌≤◌, ◌&&◌, ◌≢◌, zero, suc, Bool, true, false, cond, Some, None, Option, List, [], ◌∷◌, ◌++◌, length, take, drop, map, Ordering, Less, Equal, Greater, get_or, get_or-set_other, get_or-set_same, length-drop, length-take, refl, sym, ap, ◌∙◌, arith, ⊎_elim}
 use Rattle.std.specs.Prelude.{◌==◌, not, nat_lt, slice_get, slice_set, slice_index, unwrap_or, take_while, if◌then◌else◌}
 use Rattle.std.specs.BTreeMap.{BTreeMap, Updates, get}
 use Rattle.std.specs.Cmp.Lexicographic.{pointwise, slice_cmp}
 use Rattle.std.specs.List.{between, prefix_len}
 use Rattle.std.specs.Map.{lookup}
 use Rattle.std.specs.Option.{option_and_then}
-use Rattle.std.specs.Ordering.{is_eq, ordering_then}
+use Rattle.std.specs.Ordering.{is_eq, nat_cmp, ordering_then}
 use Rattle.std.specs.Str.{bytes_eq}
-use Rattle.std.specs.String.{string_bytes, string_cmp}
 use Rattle.std.proofs.lemmas.Bool.{true≢false, cases_lt}
 use Rattle.std.proofs.lemmas.Bool.Decides.{Decides-ltb}
 use Rattle.std.proofs.lemmas.List.{length-map, take-append-drop, drop-take, take_all}
@@ -50,12 +49,12 @@ flipped [] (y ∷ ys) = refl
 flipped (x ∷ xs) [] = refl
 flipped (x ∷ xs) (y ∷ ys) = λ i. same_back x y i && flipped xs ys i
 
-same_names : (xs ys : List (String Global)) → is_eq (slice_cmp string_cmp xs ys) ≡ pointwise bytes_eq (map string_bytes xs) (map string_bytes ys)
+same_names : (xs ys : List (List ℕ)) → is_eq (slice_cmp (slice_cmp nat_cmp) xs ys) ≡ pointwise bytes_eq xs ys
 same_names [] [] = refl
 same_names [] (y ∷ ys) = refl
 same_names (x ∷ xs) [] = refl
 same_names (x ∷ xs) (y ∷ ys) =
-    then_eq (string_cmp x y) (slice_cmp string_cmp xs ys) ∙ (λ i. is_eq-slice_cmp (string_bytes x) (string_bytes y) i && same_names xs ys i)
+    then_eq (slice_cmp nat_cmp x y) (slice_cmp (slice_cmp nat_cmp) xs ys) ∙ (λ i. is_eq-slice_cmp x y i && same_names xs ys i)
 
 ties : (key other : Call) (call : Signed) → names_in key ≡ call.0 ∷ call.1 → is_eq (call_cmp key other) ≡ is_call other call
 ties key other call is =

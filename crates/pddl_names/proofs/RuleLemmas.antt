@@ -1,7 +1,7 @@
 -- Each rule of names, by the role of the word.
-use Rattle.std.proofs.Common.{◌≡◌, ℕ, ◌+◌, ◌&&◌, Bool, true, false, Some, None, Option, List, take, drop, refl, sym, ap, ◌∙◌}
+use Rattle.std.proofs.Common.{◌≡◌, ℕ, ◌+◌, ◌-◌, ◌&&◌, Bool, true, false, Some, None, Option, List, take, drop, refl, sym, ap, ◌∙◌, arith}
 use Rattle.std.specs.Prelude.{not, slice_get}
-use Rattle.std.specs.List.{list_any}
+use Rattle.std.specs.List.{list_any, between}
 use Rattle.std.specs.Map.{lookup}
 use Rattle.std.specs.Str.{bytes_eq}
 use Rattle.pddl_form.specs.declared.parts.Owner.TheVariants as owner
@@ -11,12 +11,12 @@ use Rattle.pddl_names.specs.declared.names.NameTable.{NameTable}
 use Rattle.pddl_names.specs.declared.role.Role.{Role}
 use Rattle.pddl_names.specs.declared.role.Role.TheVariants as role
 use Rattle.pddl_names.specs.declared.role.Word.{Word}
-use Rattle.pddl_names.specs.Kinds.{is_kind, is_once, ArePlaces, first_place}
+use Rattle.pddl_names.specs.Kinds.{is_kind, is_once, declares, ArePlaces, first_place}
 use Rattle.pddl_names.specs.Listings.{Declared, first_of, type_behind, terms_behind, number_behind, values_in, comes_back}
 use Rattle.pddl_names.specs.Naming.{is_twice, is_cycle, is_again, is_other, is_other_number, same_call, same_sort, action_words}
 use Rattle.pddl_names.specs.Numbers.{number_in}
 use Rattle.pddl_names.specs.Tables.{first_before, is_increase_role}
-use Rattle.pddl_names.proofs.AgainLemmas.{again_some, again_none}
+use Rattle.pddl_names.proofs.AgainLemmas.{again_some, again_none, same_kind}
 
 module _ (k : Kind) (words : List Word) (place : ℕ) (w : Word) (at : slice_get words place ≡ Some w) (once : is_once k ≡ true) (is : is_kind k w.role ≡ true) where
   again_by : (o : Option ℕ) → first_place k words w.text ≡ o → first_before o place ≡ is_again (take place words) w
@@ -85,20 +85,15 @@ module _ (known : Declared) (words : List Word) (place : ℕ) (w : Word) (at : s
   cycle_is is again same =
       ap (λ b. comes_back known.types w.text && not b) (same ∙ sym (by_role (is_again front) role.ListedType is)) ∙ by_role (λ v. is_cycle known front v) role.ListedType is
 
-  listed_first : w.role ≡ role.ListedType → (table : NameTable) → ArePlaces kind.Types words table → first_before (number_in table w.text) place ≡ is_again front w
-  listed_first is table places = again_first kind.Types words place w at refl (ap (is_kind kind.Types) is) table places
+  listed_before : w.role ≡ role.ListedType → list_any (declares kind.Types w.text) (between 0 place words) ≡ is_again front w
+  listed_before is =
+      let long : place - 0 ≡ place = omega arith in
+      ap (λ n. list_any (declares kind.Types w.text) (take n words)) long
+      ∙ (λ i. list_any (λ (v : Word). same_kind kind.Types w.role refl (ap (is_kind kind.Types) is) v.role i && bytes_eq v.text w.text) front)
 
-  and_true : (b : Bool) → b ≡ (b && true)
-  and_true true = refl
-  and_true false = refl
+  pub cycle_none : w.role ≡ role.ListedType → comes_back known.types w.text ≡ false → false ≡ is_cycle known front w
+  cycle_none is none = sym (ap (λ b. b && not (is_again front w)) none) ∙ cycle_is is (is_again front w) refl
 
-  and_false : (b : Bool) → false ≡ (b && false)
-  and_false true = refl
-  and_false false = refl
-
-  pub cycle_first : w.role ≡ role.ListedType → (table : NameTable) → ArePlaces kind.Types words table → first_before (number_in table w.text) place ≡ false
-      → comes_back known.types w.text ≡ is_cycle known front w
-  cycle_first is table places none = and_true (comes_back known.types w.text) ∙ cycle_is is false (sym none ∙ listed_first is table places)
-
-  pub cycle_again : w.role ≡ role.ListedType → (table : NameTable) → ArePlaces kind.Types words table → first_before (number_in table w.text) place ≡ true → false ≡ is_cycle known front w
-  cycle_again is table places there = and_false (comes_back known.types w.text) ∙ cycle_is is true (sym there ∙ listed_first is table places)
+  pub cycle_back : w.role ≡ role.ListedType → comes_back known.types w.text ≡ true
+      → (again : Bool) → again ≡ list_any (declares kind.Types w.text) (between 0 place words) → not again ≡ is_cycle known front w
+  cycle_back is back again same = sym (ap (λ b. b && not again) back) ∙ cycle_is is again (same ∙ listed_before is)

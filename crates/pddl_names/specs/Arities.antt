@@ -1,6 +1,8 @@
 -- How many parameters what is declared by a name has. A table of them is `Arities`.
 use Rattle.std.specs.Prelude.{ℕ, ◌≡◌, Bool, true, false, List, [], map, length, Option, Some, if◌then◌else◌}
-use Rattle.std.specs.BTreeMap.{get_by_text}
+use Rattle.std.specs.BTreeMap.{get}
+use Rattle.std.specs.Cmp.Lexicographic.{slice_cmp}
+use Rattle.std.specs.Ordering.{nat_cmp}
 use Rattle.std.specs.Option.{option_map}
 use Rattle.std.specs.Str.{bytes_eq}
 use Rattle.mre_base.specs.declared.text.Text.{Text}
@@ -34,7 +36,7 @@ arity_of entries name = option_map length (first_of entries name)
 
 -- what a table has for a name
 abbrev pub count_in : Arities → Text → Option ℕ
-count_in table name = get_by_text table.counts name
+count_in table name = get (slice_cmp nat_cmp) table.counts name
 
 -- the name has this count after, and each other name has what it had before
 abbrev pub PutsCount : Arities → Arities → Text → ℕ → Type 0

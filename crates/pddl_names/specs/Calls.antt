@@ -1,11 +1,10 @@
 -- Calls as keys: a call is the list of its function's name and the names of the objects.
-use Rattle.std.specs.Prelude.{ℕ, ◌≡◌, Bool, true, false, List, ◌∷◌, map}
+use Rattle.std.specs.Prelude.{ℕ, ◌≡◌, Bool, true, false, List, ◌∷◌}
 use Rattle.std.specs.BTreeMap.{BTreeMap, get}
 use Rattle.std.specs.Cmp.Lexicographic.{pointwise, slice_cmp}
 use Rattle.std.specs.declared.cmp.Ordering.{Ordering}
-use Rattle.std.specs.Ordering.{on}
+use Rattle.std.specs.Ordering.{on, nat_cmp}
 use Rattle.std.specs.Str.{bytes_eq}
-use Rattle.std.specs.String.{string_bytes, string_cmp}
 use Rattle.pddl_names.specs.declared.calls.Call.{Call}
 use Rattle.pddl_names.specs.declared.role.Role.{Role}
 use Rattle.pddl_names.specs.declared.role.Role.TheVariants as role
@@ -15,11 +14,11 @@ use Rattle.pddl_names.specs.Tables.{first_value}
 
 -- the names of a key
 abbrev pub names_in : Call → List (List ℕ)
-names_in key = map string_bytes key.words.items
+names_in key = key.words.items
 
 -- keys in the order of their names
 abbrev pub call_cmp : Call → Call → Ordering
-call_cmp = on (λ t. t.words.items) (slice_cmp string_cmp)
+call_cmp = on (λ t. t.words.items) (slice_cmp (slice_cmp nat_cmp))
 
 -- the key is that of the call
 abbrev pub is_call : Call → Signed → Bool

@@ -3,7 +3,9 @@ use Rattle.std.specs.Prelude.{ℕ, ◌≡◌, List, Option, Some, slice_get, if�
 use Rattle.std.specs.List.{position_from}
 use Rattle.std.specs.Option.{option_map}
 use Rattle.std.specs.Str.{bytes_eq}
-use Rattle.std.specs.BTreeMap.{get_by_text}
+use Rattle.std.specs.BTreeMap.{get}
+use Rattle.std.specs.Cmp.Lexicographic.{slice_cmp}
+use Rattle.std.specs.Ordering.{nat_cmp}
 use Rattle.model_kit.specs.declared.vocabulary.Signature.{Signature}
 use Rattle.pddl_names.specs.declared.names.NameTable.{NameTable}
 
@@ -32,7 +34,7 @@ number_of name_of entries name = position_from (λ entry. bytes_eq (name_of entr
 
 -- what a table has for a name
 abbrev pub number_in : NameTable → List ℕ → Option ℕ
-number_in table name = get_by_text table.numbers name
+number_in table name = get (slice_cmp nat_cmp) table.numbers name
 
 -- the name has this number after, and each other name has what it had before
 abbrev pub PutsNumber : NameTable → NameTable → List ℕ → ℕ → Type 0

@@ -58,7 +58,6 @@ pub record AreTables (known : Declared) (words : List Word) (tables : Tables) : 
   pub names : AreNames known tables.names
   pub types : AreTypePlaces words tables.types.items
   pub heads : AreHeads known words tables.heads
-  pub listed : ArePlaces kind.Types words tables.listed
   pub predicates : ArePlaces kind.Predicates words tables.predicates
   pub functions : ArePlaces kind.Functions words tables.functions
   pub actions : ArePlaces kind.Actions words tables.actions

@@ -14,7 +14,7 @@ use std::collections::BTreeMap;
 /// How many parameters what is declared by a name has: of a name that is declared again, the first.
 #[derive(Drop)]
 pub struct Arities {
-    counts: BTreeMap<String, usize>,
+    counts: BTreeMap<Text, usize>,
 }
 
 impl Arities {
@@ -75,8 +75,7 @@ impl Arities {
     fn put(&mut self, alloc: Global, name: &Text, count: usize) -> Result<(), NoMemory>
         ensures ok { OnOk result (PutsCount self.old self.new name.now count) }
     {
-        let key = String::from_str(alloc, name.as_str())?;
-        self.counts.insert(key, count)?;
+        self.counts.insert(name.copy(alloc)?, count)?;
         Ok(())
     }
 
@@ -84,6 +83,6 @@ impl Arities {
     pub fn count(&self, name: &Text) -> Option<usize>
         ensures { result ≡ count_in self.now name.now }
     {
-        self.counts.get(name.as_str()).copied()
+        self.counts.get(name).copied()
     }
 }

@@ -1,5 +1,7 @@
+use mre_base::Text;
+
 /// A function at objects: its name and theirs.
 #[derive(Drop, PartialEq, Eq, PartialOrd, Ord)]
 pub(crate) struct Call {
-    pub(crate) words: Vec<String>,
+    pub(crate) words: Vec<Text>,
 }

@@ -54,8 +54,7 @@ pub struct Tables {
     /// Where the type behind each word stands.
     pub types: Vec<u32>,
     pub heads: Heads,
-    /// Where each type is listed first, and each predicate, function and action declared.
-    pub listed: NameTable,
+    /// Where each predicate, function and action is declared first.
     pub predicates: NameTable,
     pub functions: NameTable,
     pub actions: NameTable,
@@ -76,7 +75,6 @@ impl Tables {
             names: Names::of(alloc, known)?,
             types,
             heads: heads_of(alloc, base, words, terms)?,
-            listed: NameTable::of_kind(alloc, words, Kind::Types)?,
             predicates: NameTable::of_kind(alloc, words, Kind::Predicates)?,
             functions: NameTable::of_kind(alloc, words, Kind::Functions)?,
             actions: NameTable::of_kind(alloc, words, Kind::Actions)?,

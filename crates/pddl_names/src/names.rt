@@ -59,7 +59,7 @@ impl Named for Text {
 /// Names, each with the number of what it is the name of.
 #[derive(Drop)]
 pub struct NameTable {
-    numbers: BTreeMap<String, u32>,
+    numbers: BTreeMap<Text, u32>,
 }
 
 impl NameTable {
@@ -122,8 +122,7 @@ impl NameTable {
     fn put(&mut self, alloc: Global, name: &Text, number: u32) -> Result<(), NoMemory>
         ensures ok { OnOk result (PutsNumber self.old self.new name.now number) }
     {
-        let key = String::from_str(alloc, name.as_str())?;
-        self.numbers.insert(key, number)?;
+        self.numbers.insert(name.copy(alloc)?, number)?;
         Ok(())
     }
 
@@ -131,6 +130,6 @@ impl NameTable {
     pub fn number(&self, name: &Text) -> Option<u32>
         ensures { result ≡ number_in self.now name.now }
     {
-        self.numbers.get(name.as_str()).copied()
+        self.numbers.get(name).copied()
     }
 }

@@ -4,7 +4,9 @@ ghost use Rattle.std.specs.Option.{option_map};
 ghost use Rattle.std.specs.Str.{bytes_eq};
 ghost use Rattle.pddl_names.specs.declared.role.Role.TheVariants as roles;
 ghost use Rattle.pddl_names.specs.declared.role.Word as said;
+ghost use Rattle.pddl_names.specs.declared.kind.Kind.TheVariants as kinds;
 ghost use Rattle.pddl_names.specs.Groups.{text_at};
+ghost use Rattle.pddl_names.specs.Kinds.{declares};
 ghost use Rattle.pddl_names.specs.Listings.{Declared};
 ghost use Rattle.pddl_names.specs.Naming.{is_other, is_twice, is_cycle, is_undeclared, due_types};
 ghost use Rattle.pddl_names.specs.Params.{is_param};
@@ -12,6 +14,7 @@ ghost use Rattle.pddl_names.specs.Tables.{AreNames, AreTables, AreSized, IsRound
 ghost use Rattle.pddl_names.specs.Numbers.{number_in};
 
 use crate::climbing::is_same;
+use crate::kind::Kind;
 use crate::name_tables::{Names, Round, Tables};
 use crate::names::NameTable;
 use crate::role::{Role, Word};
@@ -92,6 +95,26 @@ fn is_before(table: &NameTable, name: &Text, place: usize) -> bool
     }
 }
 
+// Whether a word lists a type with this name.
+fn is_listing(word: &Word, name: &Text) -> bool
+    ensures { result ≡ declares kinds.Types name.now word.now }
+{
+    Kind::Types.has(word.role) && is_same(&word.text, name)
+}
+
+// Whether a type with this name is listed before a place.
+fn is_listed_before(words: &List<Word>, place: usize, name: &Text) -> bool
+    requires place { place < length words.now }
+    ensures { result ≡ list_any (declares kinds.Types name.now) (between 0 place words.now) }
+{
+    for earlier in 0..place {
+        if is_listing(words.item(earlier), name) {
+            return true;
+        }
+    }
+    false
+}
+
 impl Tables {
     /// Whether a type is listed again with another parent, an object with another type, a predicate, a
     /// function or an action is declared again, a parameter or an increase stands again in one action,
@@ -138,8 +161,11 @@ impl Tables {
         let word = words.item(place);
         match word.role {
             Role::ListedType => {
-                let again = is_before(&self.listed, &word.text, place);
-                !again && self.names.tree.comes_back(&word.text)
+                if self.names.tree.comes_back(&word.text) {
+                    !is_listed_before(words, place, &word.text)
+                } else {
+                    false
+                }
             }
             _ => false,
         }

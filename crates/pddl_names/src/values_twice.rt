@@ -35,7 +35,7 @@ fn call_of(alloc: Global, words: &List<Word>, place: usize, count: usize) -> Res
 {
     let mut names = Vec::new(alloc);
     for at in place..place + 1 + count {
-        names.push(String::from_str(alloc, words.item(at).text.as_str())?)?;
+        names.push(words.item(at).text.copy(alloc)?)?;
     }
     Ok(Call { words: names })
 }

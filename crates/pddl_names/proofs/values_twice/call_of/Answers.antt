@@ -1,6 +1,5 @@
 use Rattle.std.proofs.Common.{◌≡◌, [], ◌∷◌, ◌++◌, map, sym, ap, ◌∙◌, rules}
 use Rattle.std.specs.List.{between}
-use Rattle.std.specs.String.{string_bytes}
 use Rattle.std.proofs.lemmas.List.{map-append}
 use Rattle.pddl_names.specs.declared.role.Word.{Word}
 use Rattle.pddl_names.proofs.RoundLemmas.{between_item}
@@ -11,9 +10,8 @@ loop-at-preserved c =
     let words = c.args.words.now in
     let w = c.item.result.now in
     let so_far = between c.args.place c.loop-at.at words in
-    let pushed : c.push.new.self.items ≡ c.loop-at.names.items ++ c.in_ok-from_str.field-0 ∷ [] = search rules in
-    let told = c.in_ok-from_str.ensures.ok ∙ c.as_str.ensures in
-    ap (map string_bytes) pushed ∙ map-append string_bytes c.loop-at.names.items (c.in_ok-from_str.field-0 ∷ [])
-    ∙ (λ i. c.loop-at.invariant i ++ told i ∷ [])
+    let pushed : c.push.new.self.items ≡ c.loop-at.names.items ++ c.in_ok-copy.field-0 ∷ [] = search rules in
+    pushed
+    ∙ (λ i. c.loop-at.invariant i ++ c.in_ok-copy.ensures.ok i ∷ [])
     ∙ sym (map-append (λ (v : Word). v.text) so_far (w ∷ []))
     ∙ ap (map (λ (v : Word). v.text)) (sym (between_item words c.args.place c.loop-at.at w c.loop-at.auto.at c.item.ensures))
