@@ -2,7 +2,8 @@
 use Rattle.std.proofs.Common.{◌≡◌, ℕ, ◌||◌, ◌&&◌, Bool, true, false, cond, ◌+◌, Some, List, [], ◌∷◌, ◌++◌, drop, refl, sym, ap, ◌∙◌, append_assoc}
 use Rattle.std.specs.Prelude.{◌==◌, not, fold, filter, slice_get}
 use Rattle.std.specs.List.{list_any}
-use Rattle.std.specs.Cmp.Lexicographic.{pointwise, texts_ties}
+use Rattle.std.specs.Cmp.Lexicographic.{pointwise, slice_cmp, texts_ties}
+use Rattle.std.specs.Ordering.{nat_cmp}
 use Rattle.std.specs.BTreeSet.{Updates}
 use Rattle.std.proofs.lemmas.Bool.{true≢false}
 use Rattle.std.proofs.lemmas.List.{append-nil}
@@ -14,7 +15,7 @@ use Rattle.model_kit.specs.Same.{same_numbers, same_term, same_schema_atom}
 use Rattle.model_kit.proofs.Alike.{same_numbers-decides, same_schema_atom-decides}
 use Rattle.model_kit.proofs.Loops.{drop_item}
 use Rattle.pddl_models.specs.declared.unrepeated.Seen.{Seen}
-use Rattle.pddl_models.specs.Unrepeated.{with_first, same_by, term_key, terms_key, schema_atom_key, key_cmp, has_key, AreSeen}
+use Rattle.pddl_models.specs.Unrepeated.{with_first, same_by, term_key, terms_key, schema_atom_key, has_key, AreSeen}
 use Rattle.pddl_vocabulary.specs.Values.{firsts}
 
 -- ---- numbers that were seen
@@ -24,10 +25,10 @@ either_way true c = refl
 either_way false c = refl
 
 -- an insertion adds the numbers of its key
-pub has_key-insert : (old new : Seen) (numbers : List ℕ) → Updates key_cmp old.keys new.keys (record { numbers = numbers }) true
+pub has_key-insert : (old new : Seen) (numbers : List ℕ) → Updates (slice_cmp nat_cmp) old.keys new.keys numbers true
     → (other : List ℕ) → has_key new other ≡ (same_numbers numbers other || has_key old other)
 has_key-insert old new numbers updates other =
-    updates.0 (record { numbers = other })
+    updates.0 other
     ∙ ap (λ b. cond b true (has_key old other)) (sym (texts_ties numbers other))
     ∙ either_way (same_numbers numbers other) (has_key old other)
 

@@ -2,7 +2,6 @@
 use Rattle.std.specs.Prelude.{ℕ, ◌≡◌, Bool, List, [], ◌∷◌, ◌++◌, if◌then◌else◌}
 use Rattle.std.specs.BTreeSet.{contains}
 use Rattle.std.specs.Cmp.Lexicographic.{slice_cmp}
-use Rattle.std.specs.declared.cmp.Ordering.{Ordering}
 use Rattle.std.specs.List.{list_any}
 use Rattle.std.specs.Ordering.{nat_cmp}
 use Rattle.model_kit.specs.declared.atom.GroundAtom.{GroundAtom}
@@ -10,7 +9,6 @@ use Rattle.model_kit.specs.declared.atom.SchemaAtom.{SchemaAtom}
 use Rattle.model_kit.specs.declared.atom.Term.{Term}
 use Rattle.model_kit.specs.declared.atom.Term.TheVariants.{Param, Object}
 use Rattle.model_kit.specs.Same.{same_numbers}
-use Rattle.pddl_models.specs.declared.unrepeated.Key.{Key}
 use Rattle.pddl_models.specs.declared.unrepeated.Seen.{Seen}
 
 -- the entry goes to the end unless an entry before it is the same
@@ -46,12 +44,9 @@ schema_atom_key atom = atom.predicate ∷ terms_key atom.args
 
 -- ---- what was seen
 
-abbrev pub key_cmp : Key → Key → Ordering
-key_cmp k l = slice_cmp nat_cmp k.numbers l.numbers
-
 -- these numbers were seen
 abbrev pub has_key : Seen → List ℕ → Bool
-has_key seen numbers = contains key_cmp seen.keys (record { numbers = numbers })
+has_key seen numbers = contains (slice_cmp nat_cmp) seen.keys numbers
 
 -- the numbers of each entry were seen, and no others
 abbrev pub AreSeen : {X : Type 0} → (X → List ℕ) → List X → Seen → Type 0

@@ -1,28 +1,37 @@
-ghost use Rattle.std.specs.Prelude.{◌≡◌, ◌==◌, ◌||◌, not, false, ℕ, List, [], ◌∷◌, ◌++◌, IfOk, OnOk};
-ghost use Rattle.std.specs.Cmp.{partial_order_from_own_ties};
-ghost use Rattle.std.specs.Cmp.Rules.{comparing};
-ghost use Rattle.std.specs.Cmp.Lexicographic.{pointwise, slice_cmp};
-ghost use Rattle.std.specs.Ordering.{nat_cmp, on, as_partial_cmp};
-ghost use Rattle.std.proofs.Common.{rules};
+ghost use Rattle.std.specs.Prelude.{◌≡◌, ◌||◌, not, false, ℕ, List, [], ◌∷◌, ◌++◌, IfOk, OnOk};
 ghost use Rattle.model_kit.specs.Same.{same_numbers};
 ghost use Rattle.pddl_models.specs.Unrepeated.{term_key, with_first, same_by, has_key, AreSeen};
 
 use model_kit::{GroundAtom, SchemaAtom, Term};
 use mre_base::{List, NoMemory};
+use smallvec::SmallVec;
 use std::alloc::Global;
 use std::cmp::Ordering;
 use std::collections::BTreeSet;
+use std::marker::Model;
 
-/// The numbers that tell an entry of a list apart from the others.
+/// The numbers that tell an entry of a list apart from the others. Up to eight lie in the value itself.
 #[derive(Drop)]
 pub struct Key {
-    numbers: List<u32>,
+    numbers: SmallVec<u32, 8>,
+}
+
+impl Model for Key {
+    ghost use Rattle.std.specs.Prelude.{List, ℕ};
+
+    ghost Value = { List ℕ };
+
+    ghost view = { λ key. key.numbers.items };
 }
 
 impl PartialEq for Key {
-    ghost eq = { on (λ k. k.numbers) (pointwise ◌==◌) };
+    ghost use Rattle.std.specs.Cmp.{partial_equiv_from_equiv};
+    ghost use Rattle.std.specs.Cmp.Lexicographic.{pointwise, nat_list_eq_equiv};
+    ghost use Rattle.std.specs.Prelude.{◌==◌};
 
-    ghost laws = { Prim.search (comparing, rules) };
+    ghost eq = { pointwise ◌==◌ };
+
+    ghost laws = { partial_equiv_from_equiv nat_list_eq_equiv };
 
     fn eq(&self, other: &Key) -> bool {
         self.numbers.as_slice() == other.numbers.as_slice()
@@ -30,18 +39,24 @@ impl PartialEq for Key {
 }
 
 impl Eq for Key {
-    ghost laws = { Prim.search (comparing, rules) };
+    ghost use Rattle.std.specs.Cmp.Lexicographic.{nat_list_eq_equiv};
+
+    ghost laws = { nat_list_eq_equiv };
 }
 
 /// Number by number, a proper prefix first.
 impl Ord for Key {
-    ghost cmp = { on (λ k. k.numbers) (slice_cmp nat_cmp) };
+    ghost use Rattle.std.specs.Cmp.Lexicographic.{slice_cmp, nat_list_cmp_total, texts_ties};
+    ghost use Rattle.std.specs.Ordering.{nat_cmp};
+    ghost use Rattle.std.specs.Prelude.{refl};
 
-    ghost total = { Prim.search (comparing, rules) };
+    ghost cmp = { slice_cmp nat_cmp };
 
-    ghost matches_partial_cmp = { Prim.search (comparing, rules) };
+    ghost total = { nat_list_cmp_total };
 
-    ghost matches_eq = { Prim.search (comparing, rules) };
+    ghost matches_partial_cmp = { λ x y. refl };
+
+    ghost matches_eq = { λ x y. texts_ties x y };
 
     fn cmp(&self, other: &Key) -> Ordering {
         self.numbers.as_slice().cmp(&other.numbers.as_slice())
@@ -49,9 +64,13 @@ impl Ord for Key {
 }
 
 impl PartialOrd for Key {
-    ghost partial_cmp = { as_partial_cmp (on (λ k. k.numbers) (slice_cmp nat_cmp)) };
+    ghost use Rattle.std.specs.Cmp.Lexicographic.{slice_cmp, texts_po};
+    ghost use Rattle.std.specs.Ordering.{nat_cmp};
+    ghost use Rattle.std.specs.Prelude.{Some};
 
-    ghost laws = { partial_order_from_own_ties (Prim.search (comparing, rules)) (Prim.search (comparing, rules)) };
+    ghost partial_cmp = { λ x y. Some (slice_cmp nat_cmp x y) };
+
+    ghost laws = { texts_po };
 
     fn partial_cmp(&self, other: &Key) -> Option<Ordering> {
         Some(self.cmp(other))
@@ -74,13 +93,13 @@ impl Seen {
         }
     }
 
-    /// Whether the numbers are new; from then on they are not.
-    pub fn add(&mut self, numbers: List<u32>) -> Result<bool, NoMemory>
-        ensures new { IfOk result (λ is_new. is_new ≡ not (has_key self.old numbers)) }
+    /// Whether the key is new; from then on it is not.
+    pub fn add(&mut self, key: Key) -> Result<bool, NoMemory>
+        ensures new { IfOk result (λ is_new. is_new ≡ not (has_key self.old key)) }
         ensures seen { OnOk result ((other : List ℕ) →
-            has_key self.new other ≡ (same_numbers numbers other || has_key self.old other)) }
+            has_key self.new other ≡ (same_numbers key other || has_key self.old other)) }
     {
-        Ok(self.keys.insert(Key { numbers })?)
+        Ok(self.keys.insert(key)?)
     }
 }
 
@@ -90,7 +109,7 @@ pub trait Keyed {
 
     ghost key_of: { Self → List ℕ };
 
-    fn key(&self, alloc: Global) -> Result<List<u32>, NoMemory>
+    fn key(&self, alloc: Global) -> Result<Key, NoMemory>
         ensures ok { IfOk result (λ key. key ≡ key_of self.now) };
 }
 
@@ -100,8 +119,8 @@ impl Keyed for GroundAtom {
 
     ghost key_of = { atom_key };
 
-    fn key(&self, alloc: Global) -> Result<List<u32>, NoMemory> {
-        headed(alloc, self.predicate, &self.objects)
+    fn key(&self, alloc: Global) -> Result<Key, NoMemory> {
+        Key::headed(alloc, self.predicate, &self.objects)
     }
 }
 
@@ -111,8 +130,8 @@ impl Keyed for (u32, List<u32>, u32) {
 
     ghost key_of = { value_key };
 
-    fn key(&self, alloc: Global) -> Result<List<u32>, NoMemory> {
-        headed(alloc, self.0, &self.1)
+    fn key(&self, alloc: Global) -> Result<Key, NoMemory> {
+        Key::headed(alloc, self.0, &self.1)
     }
 }
 
@@ -122,42 +141,39 @@ impl Keyed for SchemaAtom {
 
     ghost key_of = { schema_atom_key };
 
-    fn key(&self, alloc: Global) -> Result<List<u32>, NoMemory> {
-        let mut key = List::empty(alloc);
-        key.push(self.predicate)?;
+    fn key(&self, alloc: Global) -> Result<Key, NoMemory> {
+        let mut numbers = SmallVec::new(alloc);
+        numbers.push(self.predicate)?;
         for place in 0..self.args.len() {
-            push_term(&mut key, *self.args.item(place))?;
+            push_term(&mut numbers, *self.args.item(place))?;
         }
-        Ok(key)
+        Ok(Key { numbers })
     }
 }
 
-// A number and further ones behind it.
-fn headed(alloc: Global, head: u32, rest: &List<u32>) -> Result<List<u32>, NoMemory>
-    ensures ok { IfOk result (λ made. made ≡ head ∷ rest.now) }
-{
-    let mut made = List::empty(alloc);
-    made.push(head)?;
-    for place in 0..rest.len() {
-        made.push(*rest.item(place))?;
+impl Key {
+    // A number and further ones behind it.
+    fn headed(alloc: Global, head: u32, rest: &List<u32>) -> Result<Key, NoMemory>
+        ensures ok { IfOk result (λ made. made ≡ head ∷ rest.now) }
+    {
+        let mut numbers = SmallVec::new(alloc);
+        numbers.push(head)?;
+        numbers.extend_from_slice(rest.as_slice())?;
+        Ok(Key { numbers })
     }
-    Ok(made)
 }
 
 // Puts what tells a term apart at the end.
-fn push_term(key: &mut List<u32>, term: Term) -> Result<(), NoMemory>
-    ensures ok { OnOk result (key.new ≡ key.old ++ term_key term []) }
+fn push_term(numbers: &mut SmallVec<u32, 8>, term: Term) -> Result<(), NoMemory>
+    ensures ok { OnOk result (numbers.new.items ≡ numbers.old.items ++ term_key term []) }
 {
-    match term {
-        Term::Param(place) => {
-            key.push(0)?;
-            key.push(place)
-        }
-        Term::Object(object) => {
-            key.push(1)?;
-            key.push(object)
-        }
-    }
+    let (sort, number) = match term {
+        Term::Param(place) => (0, place),
+        Term::Object(object) => (1, object),
+    };
+    numbers.push(sort)?;
+    numbers.push(number)?;
+    Ok(())
 }
 
 /// Puts an entry at the end of a list, unless its numbers were seen before.
