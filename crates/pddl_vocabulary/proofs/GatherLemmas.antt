@@ -78,22 +78,22 @@ module _ (types : TypeNumbers) (words : List Word) (are : AreTypesOf words types
       ap (λ p. unwrap_or p (codes "object")) (first_type words name)
       ∙ ap (λ p. unwrap_or (option_map (λ place. type_behind (drop (place + 1) words)) p) (codes "object")) is
 
-  pub parent_some : (place : ℕ) → first_place kind.Types words name ≡ Some place → type_number types (type_behind (drop (place + 1) words)) ≡ parent_said types words name
+  pub parent_some : (place : ℕ) → first_place kind.Types words name ≡ Some place → type_number types (type_behind (drop (place + 1) words)) ≡ parent_said (type_number types) words name
   parent_some place is = ap (type_number types) (sym (parent_by (Some place) is))
 
-  pub parent_none : first_place kind.Types words name ≡ None → 0 ≡ parent_said types words name
+  pub parent_none : first_place kind.Types words name ≡ None → 0 ≡ parent_said (type_number types) words name
   parent_none is = sym are.object ∙ ap (type_number types) (sym (parent_by None is))
 
 -- ---- objects
 
-object_by : (types : TypeNumbers) (r : Role) (e : Typed) (more : List Typed) (b : Bool) → is_kind kind.Objects r ≡ b
-    → map (object_said types) (with_object r e more) ≡ cond b (object_said types e ∷ map (object_said types) more) (map (object_said types) more)
-object_by types role.ListedObject e more b is = ap (λ c. cond c (object_said types e ∷ map (object_said types) more) (map (object_said types) more)) is
-object_by types _ e more b is = ap (λ c. cond c (object_said types e ∷ map (object_said types) more) (map (object_said types) more)) is
+object_by : (number : Text → ℕ) (r : Role) (e : Typed) (more : List Typed) (b : Bool) → is_kind kind.Objects r ≡ b
+    → map (object_said number) (with_object r e more) ≡ cond b (object_said number e ∷ map (object_said number) more) (map (object_said number) more)
+object_by number role.ListedObject e more b is = ap (λ c. cond c (object_said number e ∷ map (object_said number) more) (map (object_said number) more)) is
+object_by number _ e more b is = ap (λ c. cond c (object_said number e ∷ map (object_said number) more) (map (object_said number) more)) is
 
-pub objects_step : (types : TypeNumbers) (w : Word) (rest : List Word) (b : Bool) → is_kind kind.Objects w.role ≡ b
-    → objects_numbered types (w ∷ rest) ≡ cond b ((w.text, type_number types (type_behind rest)) ∷ objects_numbered types rest) (objects_numbered types rest)
-objects_step types w rest b is = object_by types w.role (w.text, type_behind rest) (objects_listed rest) b is
+pub objects_step : (number : Text → ℕ) (w : Word) (rest : List Word) (b : Bool) → is_kind kind.Objects w.role ≡ b
+    → objects_numbered number (w ∷ rest) ≡ cond b ((w.text, number (type_behind rest)) ∷ objects_numbered number rest) (objects_numbered number rest)
+objects_step number w rest b is = object_by number w.role (w.text, type_behind rest) (objects_listed rest) b is
 
 -- ---- parameters
 
@@ -152,6 +152,6 @@ module _ (types : TypeNumbers) where
 entry_by : {X : Type 0} (b : Bool) (x : X) (more : List X) (c : Bool) → b ≡ c → cond b (x ∷ more) more ≡ cond c (x ∷ more) more
 entry_by b x more c is = ap (λ d. cond d (x ∷ more) more) is
 
-pub entries_step : (types : TypeNumbers) (k : Kind) (w : Word) (rest : List Word) (b : Bool) → is_entry_word k w ≡ b
-    → entries_said types k (w ∷ rest) ≡ cond b (entry_said types k w rest ∷ entries_said types k rest) (entries_said types k rest)
-entries_step types k w rest b is = entry_by (is_entry_word k w) (entry_said types k w rest) (entries_said types k rest) b is
+pub entries_step : (number : Text → ℕ) (k : Kind) (w : Word) (rest : List Word) (b : Bool) → is_entry_word k w ≡ b
+    → entries_said number k (w ∷ rest) ≡ cond b (entry_said number k w rest ∷ entries_said number k rest) (entries_said number k rest)
+entries_step number k w rest b is = entry_by (is_entry_word k w) (entry_said number k w rest) (entries_said number k rest) b is

@@ -9,3 +9,4 @@ pub mod TypeSound
 pub mod FormedLemmas
 pub mod VocabularyVectors
 pub mod FewLemmas
+pub mod SomeVocabulary

@@ -47,15 +47,15 @@ objects_listed_few (w ∷ rest) =
     let more = objects_listed_few rest in
     omega (arith, here, more)
 
-pub objects_few : (types : TypeNumbers) (words : List Word) → length (objects_numbered types words) ≤ length words
-objects_few types words = let same = length-map (objects_listed words) (object_said types) in let few = objects_listed_few words in omega (arith, same, few)
+pub objects_few : (number : Text → ℕ) (words : List Word) → length (objects_numbered number words) ≤ length words
+objects_few number words = let same = length-map (objects_listed words) (object_said number) in let few = objects_listed_few words in omega (arith, same, few)
 
 -- ---- by the numbers of types
 
-module _ (types : TypeNumbers) (names : List Text) (numbers : (name : Text) → type_number types name ≡ place_in names name) where
-  pub objects_are : (words : List Word) → firsts (same_by entry_name) (objects_numbered types words) ≡ objects_said names words
+module _ (number : Text → ℕ) (names : List Text) (numbers : (name : Text) → number name ≡ place_in names name) where
+  pub objects_are : (words : List Word) → firsts (same_by entry_name) (objects_numbered number words) ≡ objects_said names words
   objects_are words =
-      firsts_map (same_by entry_name) (object_said types) (objects_listed words)
+      firsts_map (same_by entry_name) (object_said number) (objects_listed words)
       ∙ (λ i. map (λ (e : Typed). let entry : Text × ℕ = (e.0, numbers e.1 i) in entry) (firsts same_entry (objects_listed words)))
 
 -- ---- they are objects
@@ -64,27 +64,27 @@ object_is : (r : Role) → is_kind kind.Objects r ≡ true → is_naming r ≡ t
 object_is role.ListedObject is = refl
 object_is _ is = absurd (true≢false (sym is))
 
-module _ (types : TypeNumbers) (entries : List (Text × ℕ)) (small : (name : Text) → type_number types name < length entries) where
-  pass_by : (w : Word) (rest : List Word) (b : Bool) → is_kind kind.Objects w.role ≡ b → IsFormed w → list_all (is_typed entries) (objects_numbered types rest) ≡ true
-      → list_all (is_typed entries) (cond b ((w.text, type_number types (type_behind rest)) ∷ objects_numbered types rest) (objects_numbered types rest)) ≡ true
+module _ (number : Text → ℕ) (entries : List (Text × ℕ)) (small : (name : Text) → number name < length entries) where
+  pass_by : (w : Word) (rest : List Word) (b : Bool) → is_kind kind.Objects w.role ≡ b → IsFormed w → list_all (is_typed entries) (objects_numbered number rest) ≡ true
+      → list_all (is_typed entries) (cond b ((w.text, number (type_behind rest)) ∷ objects_numbered number rest) (objects_numbered number rest)) ≡ true
   pass_by w rest true is formed more =
-      and_from (is_typed entries (w.text, type_number types (type_behind rest))) (list_all (is_typed entries) (objects_numbered types rest))
-      (and_from (is_name w.text) (nat_lt (type_number types (type_behind rest)) (length entries)) (formed.name (object_is w.role is))
-      ((Decides-ltb (type_number types (type_behind rest)) (length entries)).1 (small (type_behind rest)))) more
+      and_from (is_typed entries (w.text, number (type_behind rest))) (list_all (is_typed entries) (objects_numbered number rest))
+      (and_from (is_name w.text) (nat_lt (number (type_behind rest)) (length entries)) (formed.name (object_is w.role is))
+      ((Decides-ltb (number (type_behind rest)) (length entries)).1 (small (type_behind rest)))) more
   pass_by w rest false is formed more = more
 
-  pub objects_pass : (words : List Word) → AreFormed words → list_all (is_typed entries) (objects_numbered types words) ≡ true
+  pub objects_pass : (words : List Word) → AreFormed words → list_all (is_typed entries) (objects_numbered number words) ≡ true
   objects_pass [] formed = refl
   objects_pass (w ∷ rest) formed =
-      ap (list_all (is_typed entries)) (objects_step types w rest (is_kind kind.Objects w.role) refl)
+      ap (list_all (is_typed entries)) (objects_step number w rest (is_kind kind.Objects w.role) refl)
       ∙ pass_by w rest (is_kind kind.Objects w.role) refl (All-head IsFormed w rest formed) (objects_pass rest (All-tail IsFormed w rest formed))
 
-  pub objects_sound : (words : List Word) → AreFormed words → are_typed entries (firsts (same_by entry_name) (objects_numbered types words)) ≡ true
+  pub objects_sound : (words : List Word) → AreFormed words → are_typed entries (firsts (same_by entry_name) (objects_numbered number words)) ≡ true
   objects_sound words formed =
-      let listed = firsts (same_by entry_name) (objects_numbered types words) in
+      let listed = firsts (same_by entry_name) (objects_numbered number words) in
       and_from (list_all (is_typed entries) listed) (are_distinct same_name listed)
-      (all_firsts (is_typed entries) (same_by entry_name) (objects_numbered types words) (objects_pass words formed))
-      (distinct_firsts same_name (objects_numbered types words))
+      (all_firsts (is_typed entries) (same_by entry_name) (objects_numbered number words) (objects_pass words formed))
+      (distinct_firsts same_name (objects_numbered number words))
 
 -- ---- behind the objects of a domain
 
@@ -112,6 +112,7 @@ first_number (e ∷ entries) is =
     ap (λ b. unwrap_or (cond b (Some 0) (position_from (λ f. bytes_eq (entry_name f) (codes "object")) 1 entries)) 0)
     ((same_numbers-decides (entry_name e) (codes "object")).1 (ap entry_name entry))
 
+-- with a table of the numbers of the domain's types
 module _ (domain : Vocabulary) (types : TypeNumbers) (table : IsTableOf entry_name domain.types types.numbers) where
   pub numbers_are : (name : Text) → type_number types name ≡ place_in (names_of domain.types) name
   numbers_are name = ap (λ o. unwrap_or o 0) (table name ∙ sym (position_map (λ other. bytes_eq other name) entry_name 0 domain.types))
@@ -122,23 +123,24 @@ module _ (domain : Vocabulary) (types : TypeNumbers) (table : IsTableOf entry_na
     places = places;
   }
 
+module _ (domain : Vocabulary) (number : Text → ℕ) (numbers : (name : Text) → number name ≡ place_in (names_of domain.types) name) where
   some_types : 0 < length domain.types
   some_types = slice_get_within domain.types 0 (codes "object", 0) (facts_of_words domain).types_kept.first
 
-  small : (name : Text) → type_number types name < length domain.types
+  small : (name : Text) → number name < length domain.types
   small name =
       let counted = length-map domain.types entry_name in
       let lt = place_within (names_of domain.types) name (omega (arith, counted, some_types)) in
-      omega (arith, numbers_are name, counted, lt)
+      omega (arith, numbers name, counted, lt)
 
   pub more_sound : (said : List Word) → AreFormed said
-      → is_vocabulary domain.types (domain.objects ++ filter (is_no_entry domain.objects) (firsts (same_by entry_name) (objects_numbered types said))) domain.predicates domain.functions domain.actions ≡ true
+      → is_vocabulary domain.types (domain.objects ++ filter (is_no_entry domain.objects) (firsts (same_by entry_name) (objects_numbered number said))) domain.predicates domain.functions domain.actions ≡ true
   more_sound said formed =
-      let listed = firsts (same_by entry_name) (objects_numbered types said) in
+      let listed = firsts (same_by entry_name) (objects_numbered number said) in
       let further = filter (is_no_entry domain.objects) listed in
       let parts = and6 (are_types domain.types) (are_typed domain.types domain.objects) (are_signatures domain.types domain.predicates) (are_signatures domain.types domain.functions) (list_all is_no_total domain.functions) (are_signatures domain.types domain.actions) domain.sound in
       let own = and_parts (list_all (is_typed domain.types) domain.objects) (are_distinct same_name domain.objects) parts.1 in
-      let new = and_parts (list_all (is_typed domain.types) listed) (are_distinct same_name listed) (objects_sound types domain.types small said formed) in
+      let new = and_parts (list_all (is_typed domain.types) listed) (are_distinct same_name listed) (objects_sound number domain.types small said formed) in
       all6 (are_types domain.types) (are_typed domain.types (domain.objects ++ further)) (are_signatures domain.types domain.predicates) (are_signatures domain.types domain.functions) (list_all is_no_total domain.functions) (are_signatures domain.types domain.actions)
       parts.0
       (and_from (list_all (is_typed domain.types) (domain.objects ++ further)) (are_distinct same_name (domain.objects ++ further))

@@ -90,28 +90,30 @@ module _ (said : List Word) where
 
   -- ---- all lists that the words say
 
-  module _ (types : TypeNumbers) (numbers : (name : Text) → type_number types name ≡ place_in names name) where
-    pub types_are : map (type_said types said) names ≡ types_said said
+  module _ (number : Text → ℕ) (numbers : (name : Text) → number name ≡ place_in names name) where
+    pub types_are : map (type_said number said) names ≡ types_said said
     types_are i = map (λ (name : Text). let made : Text × ℕ = (name, numbers (parent_of (types_listed said) name) i) in made) names
 
-    pub types_of_are : AreTypePlaces said types.places.items → AreTypesOf said types
-    types_of_are places = record { object = numbers (codes "object"); places = places }
-
-    small : (name : Text) → type_number types name < length (types_said said)
+    small : (name : Text) → number name < length (types_said said)
     small name = let lt = small_place name in let same = numbers name in omega (arith, same, lt)
 
     pub words_sound : AreFormed said → IsNamed nothing said
-        → is_vocabulary (types_said said) (firsts (same_by entry_name) (objects_numbered types said)) (entries_said types kind.Predicates said) (entries_said types kind.Functions said) (entries_said types kind.Actions said) ≡ true
+        → is_vocabulary (types_said said) (firsts (same_by entry_name) (objects_numbered number said)) (entries_said number kind.Predicates said) (entries_said number kind.Functions said) (entries_said number kind.Actions said) ≡ true
     words_sound formed named =
         let entries = types_said said in
-        all6 (are_types entries) (are_typed entries (firsts (same_by entry_name) (objects_numbered types said))) (are_signatures entries (entries_said types kind.Predicates said))
-        (are_signatures entries (entries_said types kind.Functions said)) (list_all is_no_total (entries_said types kind.Functions said)) (are_signatures entries (entries_said types kind.Actions said))
+        all6 (are_types entries) (are_typed entries (firsts (same_by entry_name) (objects_numbered number said))) (are_signatures entries (entries_said number kind.Predicates said))
+        (are_signatures entries (entries_said number kind.Functions said)) (list_all is_no_total (entries_said number kind.Functions said)) (are_signatures entries (entries_said number kind.Actions said))
         (types_sound formed named)
-        (objects_sound types entries small said formed)
-        (signatures_sound nothing kind.Predicates refl said named types entries small formed)
-        (signatures_sound nothing kind.Functions refl said named types entries small formed)
-        (no_total types said formed)
-        (signatures_sound nothing kind.Actions refl said named types entries small formed)
+        (objects_sound number entries small said formed)
+        (signatures_sound nothing kind.Predicates refl said named number entries small formed)
+        (signatures_sound nothing kind.Functions refl said named number entries small formed)
+        (no_total number said formed)
+        (signatures_sound nothing kind.Actions refl said named number entries small formed)
+
+-- ---- by a table of the numbers of the types
+
+pub types_of_are : (said : List Word) (types : TypeNumbers) → ((name : Text) → type_number types name ≡ place_in (type_names said) name) → AreTypePlaces said types.places.items → AreTypesOf said types
+types_of_are said types numbers places = record { object = numbers (codes "object"); places = places }
 
 -- a table of the names of the types
 pub table_numbers : (said : List Word) (types : TypeNumbers) (listed : List Text) → listed ≡ type_names said → IsTableOf text_name listed types.numbers

@@ -2,6 +2,7 @@
 #![tactic(auto)]
 
 mod formed;
+mod laws;
 mod vocabularies;
 mod vocabulary_copies;
 mod vocabulary_firsts;
@@ -11,4 +12,5 @@ mod vocabulary_tests;
 mod vocabulary_types;
 
 pub use formed::law_formed;
+pub use laws::law_vocabularies;
 pub use vocabularies::{vocabulary_of, vocabulary_with};

@@ -16,7 +16,7 @@ pub fn objects_listed(
     types: &TypeNumbers,
 ) -> Result<List<(Text, u32)>, NoMemory>
     requires types { AreTypesOf words.now types.now }
-    ensures ok { IfOk result (λ made. made ≡ objects_numbered types.now words.now) }
+    ensures ok { IfOk result (λ made. made ≡ objects_numbered (type_number types.now) words.now) }
 {
     let mut made = List::empty(alloc);
     for place in 0..words.len() {
@@ -114,7 +114,7 @@ pub fn entries_of(
     types: &TypeNumbers,
 ) -> Result<List<Signature>, NoMemory>
     requires types { AreTypesOf words.now types.now }
-    ensures ok { IfOk result (λ made. made ≡ entries_said types.now kind words.now) }
+    ensures ok { IfOk result (λ made. made ≡ entries_said (type_number types.now) kind words.now) }
 {
     let mut made = List::empty(alloc);
     for place in 0..words.len() {

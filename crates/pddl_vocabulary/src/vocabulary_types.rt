@@ -58,7 +58,7 @@ pub fn type_words(alloc: Global, words: &List<Word>) -> Result<List<Text>, NoMem
 fn parent_number(words: &List<Word>, types: &TypeNumbers, listed: &NameTable, name: &Text) -> u32
     requires types { AreTypesOf words.now types.now }
     requires listed { ArePlaces Kind.Types words.now listed.now }
-    ensures { result ≡ parent_said types.now words.now name.now }
+    ensures { result ≡ parent_said (type_number types.now) words.now name.now }
 {
     match listed.number(name) {
         Some(place) => types.behind(words, place as usize),
@@ -75,7 +75,7 @@ pub fn types_of(
 ) -> Result<List<(Text, u32)>, NoMemory>
     requires few { length words.now < 2 ^ 30 }
     requires types { AreTypesOf words.now types.now }
-    ensures ok { IfOk result (λ made. made ≡ map (type_said types.now words.now) names.now) }
+    ensures ok { IfOk result (λ made. made ≡ map (type_said (type_number types.now) words.now) names.now) }
 {
     let listed = NameTable::of_kind(alloc, words, Kind::Types)?;
     let mut made = List::empty(alloc);

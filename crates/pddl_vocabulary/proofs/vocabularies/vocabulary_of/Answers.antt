@@ -6,6 +6,7 @@ use Rattle.pddl_vocabulary.specs.declared.vocabulary_types.TypeNumbers.{TypeNumb
 use Rattle.pddl_names.specs.Numbers.{entry_name}
 use Rattle.pddl_vocabulary.specs.Values.{firsts, type_words, type_names}
 use Rattle.pddl_vocabulary.specs.VocabularyFirsts.{same_by}
+use Rattle.pddl_vocabulary.specs.VocabularyTypes.{type_number}
 use Rattle.pddl_vocabulary.specs.VocabularyLists.{type_said}
 use Rattle.pddl_vocabulary.proofs.ObjectLemmas.{objects_few, objects_are}
 use Rattle.pddl_vocabulary.proofs.SignatureLemmas.{predicates_are, functions_are, actions_are}
@@ -30,7 +31,7 @@ pub firsts_of-requires-2 : goal.firsts_of-requires-2
 firsts_of-requires-2 c =
     let types : TypeNumbers = record { numbers = c.in_ok-of.field-0; places = c.in_ok-type_places.field-0 } in
     let same = ap length c.in_ok-objects_listed.ensures.ok in
-    let few = objects_few types c.args.said.now in
+    let few = objects_few (type_number types) c.args.said.now in
     record { few = omega (arith, same, few, c.requires.few) }
 
 pub types_of-requires : goal.types_of-requires
@@ -47,11 +48,11 @@ invariant_of-result c =
     let types : TypeNumbers = record { numbers = c.in_ok-of.field-0; places = c.in_ok-type_places.field-0 } in
     let names = c.in_ok-names.ensures.ok ∙ ap (firsts bytes_eq) c.in_ok-type_words.ensures.ok in
     let numbers = table_numbers said types c.in_ok-names.names names c.in_ok-of.ensures.ok in
-    let listed = c.in_ok-types_of.ensures.ok ∙ ap (map (type_said types said)) names ∙ types_are said types numbers in
+    let listed = c.in_ok-types_of.ensures.ok ∙ ap (map (type_said (type_number types) said)) names ∙ types_are said (type_number types) numbers in
     let objects = c.in_ok-firsts_of.ensures.ok ∙ ap (firsts (same_by entry_name)) c.in_ok-objects_listed.ensures.ok in
     record {
       sound = (λ i. is_vocabulary (listed i) (objects i) (c.in_ok-entries_of.ensures.ok i) (c.in_ok-entries_of-2.ensures.ok i) (c.in_ok-entries_of-3.ensures.ok i))
-          ∙ words_sound said types numbers c.requires.formed c.requires.named;
+          ∙ words_sound said (type_number types) numbers c.requires.formed c.requires.named;
     }
 
 pub returns : goal.returns
@@ -60,15 +61,15 @@ returns c =
     let types : TypeNumbers = record { numbers = c.in_ok-of.field-0; places = c.in_ok-type_places.field-0 } in
     let names = c.in_ok-names.ensures.ok ∙ ap (firsts bytes_eq) c.in_ok-type_words.ensures.ok in
     let numbers = table_numbers said types c.in_ok-names.names names c.in_ok-of.ensures.ok in
-    let listed = c.in_ok-types_of.ensures.ok ∙ ap (map (type_said types said)) names ∙ types_are said types numbers in
-    let objects = c.in_ok-firsts_of.ensures.ok ∙ ap (firsts (same_by entry_name)) c.in_ok-objects_listed.ensures.ok ∙ objects_are types (type_names said) numbers said in
-    let actions = c.in_ok-entries_of-3.ensures.ok ∙ actions_are types (type_names said) numbers said in
+    let listed = c.in_ok-types_of.ensures.ok ∙ ap (map (type_said (type_number types) said)) names ∙ types_are said (type_number types) numbers in
+    let objects = c.in_ok-firsts_of.ensures.ok ∙ ap (firsts (same_by entry_name)) c.in_ok-objects_listed.ensures.ok ∙ objects_are (type_number types) (type_names said) numbers said in
+    let actions = c.in_ok-entries_of-3.ensures.ok ∙ actions_are (type_number types) (type_names said) numbers said in
     record {
       ok = record {
         types = listed;
         objects = objects;
-        predicates = c.in_ok-entries_of.ensures.ok ∙ predicates_are types (type_names said) numbers said;
-        functions = c.in_ok-entries_of-2.ensures.ok ∙ functions_are types (type_names said) numbers said;
+        predicates = c.in_ok-entries_of.ensures.ok ∙ predicates_are (type_number types) (type_names said) numbers said;
+        functions = c.in_ok-entries_of-2.ensures.ok ∙ functions_are (type_number types) (type_names said) numbers said;
         actions = actions;
       };
       few_types = few_types said c.in_ok-types_of.field-0 listed;

@@ -5,6 +5,7 @@ use Rattle.pddl_vocabulary.specs.declared.vocabulary_types.TypeNumbers.{TypeNumb
 use Rattle.pddl_names.specs.Numbers.{entry_name}
 use Rattle.pddl_vocabulary.specs.Values.{firsts, names_of}
 use Rattle.pddl_vocabulary.specs.VocabularyFirsts.{same_by, is_no_entry}
+use Rattle.pddl_vocabulary.specs.VocabularyTypes.{type_number}
 use Rattle.pddl_vocabulary.proofs.FewLemmas.{few_more}
 use Rattle.pddl_vocabulary.proofs.ObjectLemmas.{objects_few, objects_are, numbers_are, types_are, more_sound}
 use Rattle.pddl_vocabulary.proofs.vocabularies.vocabulary_with.Goals as goal
@@ -18,7 +19,7 @@ pub firsts_of-requires : goal.firsts_of-requires
 firsts_of-requires c =
     let types : TypeNumbers = record { numbers = c.in_ok-of.field-0; places = c.in_ok-type_places.field-0 } in
     let same = ap length c.in_ok-objects_listed.ensures.ok in
-    let few = objects_few types c.args.said.now in
+    let few = objects_few (type_number types) c.args.said.now in
     record { few = omega (arith, same, few, c.requires.few) }
 
 pub invariant_of-result : goal.invariant_of-result
@@ -28,7 +29,7 @@ invariant_of-result c =
     let objects = c.in_ok-with_further.ensures.ok ∙ (λ i. domain.objects ++ filter (is_no_entry domain.objects) ((c.in_ok-listed.ensures.ok ∙ ap (firsts (same_by entry_name)) c.in_ok-objects_listed.ensures.ok) i)) in
     record {
       sound = (λ i. is_vocabulary (c.in_ok-copy_all.ensures.ok i) (objects i) (c.in_ok-copy_all-2.ensures.ok i) (c.in_ok-copy_all-3.ensures.ok i) (c.in_ok-copy_all-4.ensures.ok i))
-          ∙ more_sound domain types c.in_ok-of.ensures.ok c.args.said.now c.requires.formed;
+          ∙ more_sound domain (type_number types) (numbers_are domain types c.in_ok-of.ensures.ok) c.args.said.now c.requires.formed;
     }
 
 pub returns : goal.returns
@@ -37,7 +38,7 @@ returns c =
     let types : TypeNumbers = record { numbers = c.in_ok-of.field-0; places = c.in_ok-type_places.field-0 } in
     let listed =
     c.in_ok-listed.ensures.ok ∙ ap (firsts (same_by entry_name)) c.in_ok-objects_listed.ensures.ok
-    ∙ objects_are types (names_of domain.types) (numbers_are domain types c.in_ok-of.ensures.ok) c.args.said.now in
+    ∙ objects_are (type_number types) (names_of domain.types) (numbers_are domain types c.in_ok-of.ensures.ok) c.args.said.now in
     let objects = c.in_ok-with_further.ensures.ok ∙ (λ i. domain.objects ++ filter (is_no_entry domain.objects) (listed i)) in
     record {
       ok = record {
