@@ -12,3 +12,4 @@ pub mod FactLemmas
 pub mod SchemaLemmas
 pub mod ModelLemmas
 pub mod RoleLemmas
+pub mod SomeModel

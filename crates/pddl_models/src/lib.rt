@@ -6,6 +6,7 @@ mod bodies;
 mod body;
 mod domain;
 mod facts;
+mod laws;
 #[cfg(test)]
 mod model_tests;
 mod models;
@@ -16,5 +17,6 @@ mod word_tables;
 pub use bodies::{bodies_of, domain_of};
 pub use body::Body;
 pub use domain::Domain;
+pub use laws::law_saying;
 pub use models::model_of;
 pub use roles_law::law_roles;
