@@ -1,24 +1,48 @@
--- A text is of one domain at most, or has one first fault, never both; so an answer that is right is the only one.
-use Rattle.std.proofs.Common.{◌≡◌, ℕ, List, Result, Ok, Err, subst}
-use Rattle.std.specs.Prelude.{IfOk}
+-- Each text is of one domain or has one first fault, never both; so an answer that is right is the only one.
+use Rattle.std.proofs.Common.{◌≡◌, ℕ, List, Result, Ok, Err, sym, subst, inl, inr}
+use Rattle.std.specs.Prelude.{◌⊎◌, IfOk}
 use Rattle.pddl_text.specs.declared.fault.TextFault.{TextFault}
 use Rattle.pddl_text.specs.declared.fault.ReadStop.{ReadStop}
 use Rattle.pddl_text.specs.declared.fault.ReadStop.TheVariants as stop
 use Rattle.pddl_text.specs.Answers.{IfFault, AnswersOk, AnswersFault}
-use Rattle.pddl_text.proofs.ExactLemmas.{IsExact, same_value, same_fault, never_both}
+use Rattle.pddl_text.specs.Forests.{tokens_of_all}
+use Rattle.pddl_text.proofs.ExactLemmas.{IsExact, either, same_value, same_fault, never_both}
 use Rattle.pddl_form.specs.First.{domain}
 use Rattle.pddl_form.specs.declared.parts.Part.TheVariants as part
+use Rattle.pddl_names.specs.declared.role.Word.{Word}
 use Rattle.pddl_names.specs.Listings.{nothing}
 use Rattle.pddl_names.specs.Texts.{IsSaid, IsUnsaid, said_of}
 use Rattle.pddl_names.proofs.TextLemmas.{said_exact}
+use Rattle.pddl_vocabulary.specs.Formed.{AreFormed}
+use Rattle.pddl_vocabulary.proofs.FormedLemmas.{are_formed}
+use Rattle.pddl_vocabulary.proofs.SomeVocabulary.{some_words}
 use Rattle.pddl_models.specs.declared.domain.Domain.{Domain}
+use Rattle.pddl_models.specs.Saying.{AreNoTotals}
 use Rattle.pddl_models.specs.Says.{SaysDomain}
+use Rattle.pddl_models.proofs.RoleLemmas.{are_no_totals}
+use Rattle.pddl_models.proofs.SomeModel.{some_domain}
 use Rattle.pddl_read.specs.Texts.{IsDomainText, IsDomainFault}
 use Rattle.pddl_read.proofs.Once.{domain_once}
 
 module _ (bytes : List ℕ) where
   exact : IsExact (said_of part.Domain nothing bytes) (IsSaid part.Domain nothing bytes) (IsUnsaid part.Domain nothing bytes)
   exact = said_exact part.Domain domain nothing bytes
+
+  -- what a text of the grammar says, where it breaks no rule of names, is a domain
+  domain_said : (said : List Word) → IsSaid part.Domain nothing bytes said → (a : Domain) × SaysDomain said a
+  domain_said said is =
+      let formed = subst AreFormed (sym is.words) (are_formed part.Domain bytes is.forest is.met is.spelled is.form) in
+      let calls = subst AreNoTotals (sym is.words) (are_no_totals part.Domain (tokens_of_all is.forest.trees) is.met is.form) in
+      let words = some_words said formed is.named in
+      some_domain said words.0 words.1 is.named calls
+
+  either_of : ((said : List Word) × IsSaid part.Domain nothing bytes said) ⊎ ((fault : TextFault) × IsUnsaid part.Domain nothing bytes fault)
+      → ((a : Domain) × IsDomainText bytes a) ⊎ ((fault : TextFault) × IsDomainFault bytes fault)
+  either_of (inl (said, is)) = let found = domain_said said is in inl (found.0, record { said = said; text = is; says = found.1 })
+  either_of (inr found) = inr found
+
+  pub either_domain : ((a : Domain) × IsDomainText bytes a) ⊎ ((fault : TextFault) × IsDomainFault bytes fault)
+  either_domain = either_of (either (said_of part.Domain nothing bytes) (IsSaid part.Domain nothing bytes) (IsUnsaid part.Domain nothing bytes) exact)
 
   pub one_domain : (a b : Domain) → IsDomainText bytes a → IsDomainText bytes b → a ≡ b
   one_domain a b one two =

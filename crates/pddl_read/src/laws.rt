@@ -1,11 +1,14 @@
-ghost use Rattle.std.specs.Prelude.{◌≡◌, ℕ, List};
+ghost use Rattle.std.specs.Prelude.{◌≡◌, ◌⊎◌, ℕ, List};
 ghost use Rattle.pddl_text.specs.declared.fault.TextFault.{TextFault};
 ghost use Rattle.model_kit.specs.declared.model.Model.{Model};
 ghost use Rattle.pddl_models.specs.declared.domain.Domain.{Domain};
 ghost use Rattle.pddl_read.specs.Texts.{IsDomainText, IsDomainFault, IsProblemText, IsProblemFault};
 
-/// A text is of one domain at most and has one first fault at most, never both.
+/// Each text is of a domain or has a first fault, never both, and only one of either.
 pub fn law_domains()
+    ensures either { (bytes : List ℕ) →
+        ((domain : Domain) × IsDomainText bytes domain)
+        ⊎ ((fault : TextFault) × IsDomainFault bytes fault) }
     ensures never_both { (bytes : List ℕ) (domain : Domain) (fault : TextFault) →
         IsDomainText bytes domain → IsDomainFault bytes fault → ⊥ }
     ensures one_domain { (bytes : List ℕ) (domain other : Domain) →
