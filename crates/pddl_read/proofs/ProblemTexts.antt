@@ -1,25 +1,49 @@
--- Behind a domain a text is of one model at most, or has one first fault, never both; so an answer that is right is the only one.
-use Rattle.std.proofs.Common.{◌≡◌, ℕ, List, Result, Ok, Err, subst}
-use Rattle.std.specs.Prelude.{IfOk}
+-- Behind a domain each text is of one model or has one first fault, never both; so an answer that is right is the only one.
+use Rattle.std.proofs.Common.{◌≡◌, ℕ, List, Result, Ok, Err, sym, subst, inl, inr}
+use Rattle.std.specs.Prelude.{◌⊎◌, IfOk}
 use Rattle.pddl_text.specs.declared.fault.TextFault.{TextFault}
 use Rattle.pddl_text.specs.declared.fault.ReadStop.{ReadStop}
 use Rattle.pddl_text.specs.declared.fault.ReadStop.TheVariants as stop
 use Rattle.pddl_text.specs.Answers.{IfFault, AnswersOk, AnswersFault}
-use Rattle.pddl_text.proofs.ExactLemmas.{IsExact, same_value, same_fault, never_both}
+use Rattle.pddl_text.specs.Forests.{tokens_of_all}
+use Rattle.pddl_text.proofs.ExactLemmas.{IsExact, either, same_value, same_fault, never_both}
 use Rattle.model_kit.specs.declared.model.Model.{Model}
 use Rattle.pddl_form.specs.First.{problem}
 use Rattle.pddl_form.specs.declared.parts.Part.TheVariants as part
-use Rattle.pddl_names.specs.Listings.{Declared}
+use Rattle.pddl_names.specs.declared.role.Word.{Word}
 use Rattle.pddl_names.specs.Texts.{IsSaid, IsUnsaid, said_of, declared_by}
 use Rattle.pddl_names.proofs.TextLemmas.{said_exact}
+use Rattle.pddl_vocabulary.specs.Formed.{AreFormed}
+use Rattle.pddl_vocabulary.proofs.FormedLemmas.{are_formed}
+use Rattle.pddl_vocabulary.proofs.SomeVocabulary.{some_more}
 use Rattle.pddl_models.specs.declared.domain.Domain.{Domain}
+use Rattle.pddl_models.specs.Saying.{AreNoTotals, AreOfProblem}
 use Rattle.pddl_models.specs.Says.{SaysModel}
+use Rattle.pddl_models.proofs.RoleLemmas.{are_no_totals, are_of_problem}
+use Rattle.pddl_models.proofs.SomeModel.{some_model}
 use Rattle.pddl_read.specs.Texts.{IsProblemText, IsProblemFault}
 use Rattle.pddl_read.proofs.Once.{model_once}
 
 module _ (behind : Domain) (bytes : List ℕ) where
   exact : IsExact (said_of part.Problem (declared_by behind.words) bytes) (IsSaid part.Problem (declared_by behind.words) bytes) (IsUnsaid part.Problem (declared_by behind.words) bytes)
   exact = said_exact part.Problem problem (declared_by behind.words) bytes
+
+  -- what a text of the grammar says, where it breaks no rule of names, is a model
+  model_said : (said : List Word) → IsSaid part.Problem (declared_by behind.words) bytes said → (a : Model) × SaysModel behind said a
+  model_said said is =
+      let formed = subst AreFormed (sym is.words) (are_formed part.Problem bytes is.forest is.met is.spelled is.form) in
+      let calls = subst AreNoTotals (sym is.words) (are_no_totals part.Problem (tokens_of_all is.forest.trees) is.met is.form) in
+      let roles = subst AreOfProblem (sym is.words) (are_of_problem (tokens_of_all is.forest.trees) is.met is.form) in
+      let words = some_more behind.words said formed in
+      some_model behind said words.0 words.1 is.named calls roles
+
+  either_of : ((said : List Word) × IsSaid part.Problem (declared_by behind.words) bytes said) ⊎ ((fault : TextFault) × IsUnsaid part.Problem (declared_by behind.words) bytes fault)
+      → ((a : Model) × IsProblemText behind bytes a) ⊎ ((fault : TextFault) × IsProblemFault behind bytes fault)
+  either_of (inl (said, is)) = let found = model_said said is in inl (found.0, record { said = said; text = is; says = found.1 })
+  either_of (inr found) = inr found
+
+  pub either_model : ((a : Model) × IsProblemText behind bytes a) ⊎ ((fault : TextFault) × IsProblemFault behind bytes fault)
+  either_model = either_of (either (said_of part.Problem (declared_by behind.words) bytes) (IsSaid part.Problem (declared_by behind.words) bytes) (IsUnsaid part.Problem (declared_by behind.words) bytes) exact)
 
   pub one_model : (a b : Model) → IsProblemText behind bytes a → IsProblemText behind bytes b → a ≡ b
   one_model a b one two =

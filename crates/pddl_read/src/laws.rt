@@ -17,8 +17,11 @@ pub fn law_domains()
         IsDomainFault bytes fault → IsDomainFault bytes other → fault ≡ other }
 {}
 
-/// Behind a domain, a text is of one model at most and has one first fault at most, never both.
+/// Behind a domain, each text is of a model or has a first fault, never both, and only one of either.
 pub fn law_problems()
+    ensures either { (domain : Domain) (bytes : List ℕ) →
+        ((model : Model) × IsProblemText domain bytes model)
+        ⊎ ((fault : TextFault) × IsProblemFault domain bytes fault) }
     ensures never_both { (domain : Domain) (bytes : List ℕ) (model : Model) (fault : TextFault) →
         IsProblemText domain bytes model → IsProblemFault domain bytes fault → ⊥ }
     ensures one_model { (domain : Domain) (bytes : List ℕ) (model other : Model) →
