@@ -21,7 +21,7 @@ use Rattle.plain_program.specs.declared.answer.Foil.{Foil}
 use Rattle.plain_program.specs.Answers.{IsCheaper}
 use Rattle.plain_program.specs.Numbered.{actions_of, numbers_of, IsNumbered}
 use Rattle.plain_program.specs.Kept.{OfTask, IsPriced}
-use Rattle.plain_program.proofs.RunLemmas.{valid_to, valid_from, cost_same, named_again, numbers_listed, listed_fits, valid_listed, none_cheaper}
+use Rattle.plain_program.proofs.RunLemmas.{valid_to, cost_same, named_again, numbers_listed, listed_fits, valid_listed, none_cheaper}
 
 -- the numbers of a plan are listed, and as many as the plan has steps
 pub plan_listed : (words : Vocabulary) (plan : List GroundAction) (list : List ℕ) (n : ℕ) → All (IsGroundAction words) plan → list ≡ numbers_of plan → n ≡ length words.actions → All (λ k. k < n) list
@@ -47,11 +47,11 @@ module _ (words : Vocabulary) (plain : is_plain words ≡ true) (model : Meaning
   cheapest_if k price least =
       subst (IsCheapest words model) again (none_cheaper words plain model task is list list_valid (subst (HasNoCheaper task) price least))
 
-  -- a valid list of numbers costs less
+  -- a cheapest valid list of numbers costs less
   pub cheaper_if : (k : ℕ) → k ≡ task_cost_of task list → (other : List ℕ) → IsCheapestBelow task k (Some other) → (foil : Foil) → foil.plan.steps ≡ actions_of other → foil.cost ≡ task_cost_of task other → IsCheaper words model plan foil
   cheaper_if k price other found foil steps costs = record {
     fits = subst (All (IsGroundAction words)) (sym steps) (listed_fits words plain other (subst (λ n. All (λ j. j < n) other) count (valid_listed task task.start other found.0)));
-    valid = subst (IsValid model) (sym steps) (valid_from model task is other found.0);
+    cheapest = subst (IsCheapest words model) (sym steps) (none_cheaper words plain model task is other found.0 found.2);
     costs = costs ∙ sym (cost_same model task is other) ∙ ap (cost model) (sym steps);
     less = omega (arith, costs, found.1, price, cost_same model task is list, ap (cost model) again);
   }

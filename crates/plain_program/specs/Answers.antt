@@ -1,19 +1,19 @@
--- What the plain program answers: a valid list that is cheaper than the plan, and the first complete set with the plan's cost after it.
+-- What the plain program answers: a cheapest valid list where the plan is none, and the first complete set with the plan's cost after it.
 use Rattle.std.specs.Prelude.{◌≡◌, ◌<◌, List, All}
 use Rattle.model_kit.specs.declared.vocabulary.Vocabulary.{Vocabulary}
 use Rattle.model_kit.specs.declared.action.GroundAction.{GroundAction}
 use Rattle.model_kit.specs.Places.{Meaning}
 use Rattle.model_kit.specs.Vocabulary.{IsGroundAction}
 use Rattle.model_kit.specs.Differences.{patched}
-use Rattle.model_kit.specs.Runs.{IsValid, cost}
+use Rattle.model_kit.specs.Runs.{IsCheapest, cost}
 use Rattle.model_kit.specs.Explanations.{Task, IsMCE}
 use Rattle.plain_program.specs.declared.answer.Foil.{Foil}
 use Rattle.plain_program.specs.declared.answer.FirstComplete.{FirstComplete}
 
--- a valid list of ground actions that costs less than the plan
+-- a cheapest valid list of ground actions, and it costs less than the plan
 pub record IsCheaper (words : Vocabulary) (model : Meaning) (plan : List GroundAction) (foil : Foil) : Type 0 where
   pub fits : All (IsGroundAction words) foil.plan.steps
-  pub valid : IsValid model foil.plan.steps
+  pub cheapest : IsCheapest words model foil.plan.steps
   pub costs : foil.cost ≡ cost model foil.plan.steps
   pub less : foil.cost < cost model plan
 

@@ -17,7 +17,7 @@ use mre_base::{List, NoMemory, Places};
 use std::alloc::Global;
 use task_kit::cheapest_below;
 
-/// A valid list of ground actions that is cheaper than a plan, with its cost.
+/// A cheapest valid list of ground actions, which is cheaper than a plan, with its cost.
 #[derive(Debug, Drop)]
 pub struct Foil {
     pub plan: Plan,
@@ -31,8 +31,8 @@ pub struct FirstComplete {
     pub cost: u64,
 }
 
-/// A valid list that costs less than the plan in a model where the plan is valid, or none where the plan is cheapest there. The model
-/// has no parameters, types or functions.
+/// A cheapest valid list where it costs less than the plan, which is valid in the model, or none where the plan is cheapest there. The
+/// model has no parameters, types or functions.
 pub fn cheaper_list(alloc: Global, model: &Model, plan: &Plan) -> Result<Option<Foil>, NoMemory>
     requires plain { IsTrue (is_plain model.now.words) }
     requires predicates { length model.now.words.predicates < 2 ^ 30 }
