@@ -1,10 +1,13 @@
--- What a write leaves on a sink, whatever it answers: a prefix of its bytes, at the end of what the sink told.
-use Rattle.std.proofs.Common.{◌≡◌, ℕ, List, [], ◌++◌, length, Option, None, Some, Result, Ok, Err, OnOk, refl, sym, ap, ◌∙◌, subst, append_assoc, arith}
-use Rattle.std.proofs.lemmas.List.{append-nil, take_all}
+-- What writes leave on a sink, whatever they answer, at the end of what the sink told.
+use Rattle.std.proofs.Common.{◌≡◌, ◌⊎◌, ◌≤◌, ℕ, ◌+◌, List, [], ◌++◌, length, take, Option, None, Some, Result, Ok, Err, OnOk, refl, sym, ap, ◌∙◌, subst, append_assoc, arith, inl, inr}
+use Rattle.std.proofs.Math.Seq.{take-append-add}
+use Rattle.std.proofs.lemmas.List.{append-nil}
 use Rattle.std.specs.Io.KnownBytes.{Appends}
+use Rattle.mre_outside.specs.Faults.{Rose}
 use Rattle.mre_outside.specs.Sinks.{AppendsPrefix}
 use Rattle.mre_outside.specs.declared.sink.SinkStop.{SinkStop}
 use Rattle.mre_outside.specs.declared.sink.SinkStop.TheVariants.{Failed, NoMemory}
+use Rattle.mre_top.specs.Telling.{IsWritten}
 
 -- nothing was appended
 pub Appends-nothing : (old new : Option (List ℕ)) → new ≡ old → Appends old new []
@@ -21,8 +24,27 @@ Appends-twice (Some ws) None c xs ys h k = absurd h
 Appends-twice (Some ws) (Some bs) None xs ys h k = absurd k
 Appends-twice (Some ws) (Some bs) (Some cs) xs ys h k = k ∙ ap (λ l. l ++ ys) h ∙ append_assoc ws xs ys
 
--- a prefix of the bytes was appended, whatever the write answered
-pub by_answer : (bytes : List ℕ) (old new : Option (List ℕ)) (r : Result (Unit {0}) SinkStop) → OnOk r (Appends old new bytes) → (r ≡ Err Failed → AppendsPrefix old new bytes) → (r ≡ Err NoMemory → new ≡ old) → AppendsPrefix old new bytes
-by_answer bytes old new (Ok u) whole part none = (length bytes, subst (Appends old new) (sym (take_all (length bytes) bytes (omega arith))) whole)
-by_answer bytes old new (Err Failed) whole part none = part refl
-by_answer bytes old new (Err NoMemory) whole part none = (0, Appends-nothing old new (none refl))
+-- the bytes were written, or nothing was, whatever the write answered
+pub by_answer : (sound : Type 0) (bytes : List ℕ) (old new : Option (List ℕ)) (before now : ℕ) (r : Result (Unit {0}) SinkStop)
+    → OnOk r (Appends old new bytes) → (r ≡ Err Failed → AppendsPrefix old new bytes) → (r ≡ Err NoMemory → new ≡ old)
+    → (r ≡ Err Failed → Rose before now) → (sound → ¬ (r ≡ Err Failed)) → (new ≡ old) ⊎ IsWritten sound bytes old new before now
+by_answer sound bytes old new before now (Ok u) whole part none rose steady = inr (inl whole)
+by_answer sound bytes old new before now (Err Failed) whole part none rose steady = inr (inr (λ s. steady s refl, rose refl, part refl))
+by_answer sound bytes old new before now (Err NoMemory) whole part none rose steady = inl (none refl)
+
+-- a later count rose, so an earlier one did
+rose_before : (before between now : ℕ) → before ≤ between → Rose between now → Rose before now
+rose_before before between now low rose = omega (arith, low, rose)
+
+-- first some bytes were written, and then a line, or nothing
+pub written_behind : (sound later : Type 0) → (sound → later) → (first line : List ℕ) (old mid new : Option (List ℕ)) (before between now : ℕ)
+    → before ≤ between → Appends old mid first → (new ≡ mid) ⊎ IsWritten later line mid new between now
+    → Appends old new first ⊎ IsWritten sound (first ++ line) old new before now
+written_behind sound later keeps first line old mid new before between now low start (inl same) = inl (subst (λ told. Appends old told first) (sym same) start)
+written_behind sound later keeps first line old mid new before between now low start (inr (inl whole)) = inr (inl (Appends-twice old mid new first line start whole))
+written_behind sound later keeps first line old mid new before between now low start (inr (inr part)) =
+    inr (inr (
+      λ s. part.0 (keeps s),
+      rose_before before between now low part.1,
+      (length first + part.2.0, subst (Appends old new) (sym (take-append-add first line part.2.0)) (Appends-twice old mid new first (take part.2.0 line) start part.2.1)),
+    ))

@@ -15,9 +15,18 @@ IsWritten sound bytes old new faults_old faults_new = Appends old new bytes ⊎ 
 abbrev pub told_by : List (List ℕ) → Refusal → List ℕ
 told_by names refusal = concat (lines_of names refusal)
 
--- the call ends with the refusal's status, and its lines were written; or memory ran out, and a prefix of the lines and then
--- a prefix of the line of want of memory stand there
+-- the first so many of these lines
+abbrev pub first_told : List (List ℕ) → Refusal → ℕ → List ℕ
+first_told names refusal count = concat (take count (lines_of names refusal))
+
+-- memory ran out: the first lines of the refusal were written whole, and behind them nothing, or the line of want of memory
+abbrev pub IsToldInWant : Type 0 → List (List ℕ) → Refusal → Option (List ℕ) → Option (List ℕ) → ℕ → ℕ → Type 0
+IsToldInWant sound names refusal old new faults_old faults_new =
+    (count : ℕ)
+    × (Appends old new (first_told names refusal count) ⊎ IsWritten sound (first_told names refusal count ++ memory_line) old new faults_old faults_new)
+
+-- the call ends with the refusal's status, and its lines were written; or memory ran out while they were told
 abbrev pub IsTold : Type 0 → List (List ℕ) → Refusal → ℕ → Option (List ℕ) → Option (List ℕ) → ℕ → ℕ → Type 0
 IsTold sound names refusal status old new faults_old faults_new =
     ((status ≡ status_of refusal) × IsWritten sound (told_by names refusal) old new faults_old faults_new)
-    ⊎ ((status ≡ 9) × (count more : ℕ) × Appends old new (take count (told_by names refusal) ++ take more memory_line))
+    ⊎ ((status ≡ 9) × IsToldInWant sound names refusal old new faults_old faults_new)

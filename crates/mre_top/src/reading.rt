@@ -23,6 +23,7 @@ pub fn read_files<H: Shelf>(
     ensures err { IfErr result (Stops files.now (H.held shelf.old) (H.asked shelf.old) (H.asked shelf.new)) }
     ensures failed { IfErr result (λ refusal. IsReadFailed refusal → Rose (H.faults shelf.old) (H.faults shelf.new)) }
     ensures sound { H.is_sound shelf.old → IfErr result (IsMissingWhereFailed (H.held shelf.old) files.now) }
+    ensures stays_sound { H.is_sound shelf.old → H.is_sound shelf.new }
 {
     let mut contents = List::empty(alloc);
     for file in 0..files.len() {

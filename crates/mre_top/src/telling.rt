@@ -1,7 +1,6 @@
-ghost use Rattle.std.specs.Prelude.{◌≡◌, ℕ, take};
-ghost use Rattle.std.specs.Io.KnownBytes.{Appends};
+ghost use Rattle.std.specs.Prelude.{◌≡◌, ◌⊎◌, ◌≤◌};
 ghost use Rattle.mre_top.specs.Refusals.{IsOfFile, memory_line};
-ghost use Rattle.mre_top.specs.Telling.{IsTold};
+ghost use Rattle.mre_top.specs.Telling.{IsWritten, IsTold};
 
 use crate::Refusal;
 use crate::writing::write_lines;
@@ -13,8 +12,10 @@ use std::alloc::Global;
 /// that is the status of want of memory; a write that fails changes nothing of it.
 pub fn tell<E: Sink>(alloc: Global, refusal: &Refusal, files: &List<Text>, faults: &mut E) -> u8
     requires { IsOfFile files.now refusal.now }
-    ensures { IsTold (E.is_sound faults.old) files.now refusal.now result (E.written faults.old) (E.written faults.new)
+    ensures told { IsTold (E.is_sound faults.old) files.now refusal.now result (E.written faults.old) (E.written faults.new)
         (E.faults faults.old) (E.faults faults.new) }
+    ensures never_falls { E.faults faults.old ≤ E.faults faults.new }
+    ensures stays_sound { E.is_sound faults.old → E.is_sound faults.new }
 {
     if matches!(refusal, Refusal::NoMemory) {
         return tell_no_memory(faults);
@@ -31,7 +32,11 @@ pub fn tell<E: Sink>(alloc: Global, refusal: &Refusal, files: &List<Text>, fault
 // The line of want of memory takes none.
 fn tell_no_memory<E: Sink>(faults: &mut E) -> u8
     ensures status { result ≡ 9 }
-    ensures told { (count : ℕ) × Appends (E.written faults.old) (E.written faults.new) (take count memory_line) }
+    ensures told { (E.written faults.new ≡ E.written faults.old)
+        ⊎ IsWritten (E.is_sound faults.old) memory_line (E.written faults.old) (E.written faults.new)
+        (E.faults faults.old) (E.faults faults.new) }
+    ensures never_falls { E.faults faults.old ≤ E.faults faults.new }
+    ensures stays_sound { E.is_sound faults.old → E.is_sound faults.new }
 {
     let _ = faults.write_all(b"mre: out of memory\n");
     9

@@ -126,9 +126,13 @@ pub fn explain_top<H: Shelf, S: Sink, E: Sink>(
         ⊎ IsCutShort (names_of (map string_bytes words.now)) (H.held shelf.old) (S.written out.old) (S.written out.new) }
     ensures shelf_faults { H.faults shelf.old ≤ H.faults shelf.new }
     ensures out_faults { S.faults out.old ≤ S.faults out.new }
+    ensures faults_faults { E.faults faults.old ≤ E.faults faults.new }
     ensures sound { H.is_sound shelf.old → result.status ≡ 3 →
         LacksOne (H.held shelf.old) (names_of (map string_bytes words.now)) }
     ensures out_sound { S.is_sound out.old → result.status ≢ 4 }
+    ensures shelf_stays_sound { H.is_sound shelf.old → H.is_sound shelf.new }
+    ensures out_stays_sound { S.is_sound out.old → S.is_sound out.new }
+    ensures faults_stay_sound { E.is_sound faults.old → E.is_sound faults.new }
     ensures log { result.log ≡ record { limit = 200000; nodes = [] } }
 {
     run(alloc, words, shelf, out, faults)
@@ -159,7 +163,11 @@ fn run<H: Shelf, S: Sink, E: Sink>(
     ensures held { H.held shelf.new ≡ H.held shelf.old }
     ensures shelf_faults { H.faults shelf.old ≤ H.faults shelf.new }
     ensures out_faults { S.faults out.old ≤ S.faults out.new }
+    ensures faults_faults { E.faults faults.old ≤ E.faults faults.new }
     ensures out_sound { S.is_sound out.old → result.status ≢ 4 }
+    ensures shelf_stays_sound { H.is_sound shelf.old → H.is_sound shelf.new }
+    ensures out_stays_sound { S.is_sound out.old → S.is_sound out.new }
+    ensures faults_stay_sound { E.is_sound faults.old → E.is_sound faults.new }
     ensures log { result.log ≡ record { limit = 200000; nodes = [] } }
 {
     match read_words(alloc, words) {
@@ -193,7 +201,11 @@ fn answer_request<H: Shelf, S: Sink, E: Sink>(
     ensures held { H.held shelf.new ≡ H.held shelf.old }
     ensures shelf_faults { H.faults shelf.old ≤ H.faults shelf.new }
     ensures out_faults { S.faults out.old ≤ S.faults out.new }
+    ensures faults_faults { E.faults faults.old ≤ E.faults faults.new }
     ensures out_sound { S.is_sound out.old → result.status ≢ 4 }
+    ensures shelf_stays_sound { H.is_sound shelf.old → H.is_sound shelf.new }
+    ensures out_stays_sound { S.is_sound out.old → S.is_sound out.new }
+    ensures faults_stay_sound { E.is_sound faults.old → E.is_sound faults.new }
     ensures log { result.log ≡ record { limit = 200000; nodes = [] } }
 {
     match serve(alloc, files, shelf, out) {
@@ -228,6 +240,8 @@ fn serve<H: Shelf, S: Sink>(
     ensures out_faults { S.faults out.old ≤ S.faults out.new }
     ensures sound { H.is_sound shelf.old → IfErr result (IsMissingWhereFailed (H.held shelf.old) files.now) }
     ensures out_sound { S.is_sound out.old → IfErr result (λ refusal. ¬ IsWriteFailed refusal) }
+    ensures shelf_stays_sound { H.is_sound shelf.old → H.is_sound shelf.new }
+    ensures out_stays_sound { S.is_sound out.old → S.is_sound out.new }
 {
     match read_files(alloc, shelf, files) {
         Ok(contents) => match explain_texts(alloc, &contents) {
@@ -249,6 +263,8 @@ fn refuse<E: Sink>(alloc: Global, refusal: &Refusal, files: &List<Text>, faults:
     requires { IsOfFile files.now refusal.now }
     ensures told { IsTold (E.is_sound faults.old) files.now refusal.now result.status (E.written faults.old) (E.written faults.new)
         (E.faults faults.old) (E.faults faults.new) }
+    ensures never_falls { E.faults faults.old ≤ E.faults faults.new }
+    ensures stays_sound { E.is_sound faults.old → E.is_sound faults.new }
     ensures answer { IsNone result.answer }
     ensures log { result.log ≡ record { limit = 200000; nodes = [] } }
 {

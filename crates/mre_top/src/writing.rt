@@ -1,4 +1,4 @@
-ghost use Rattle.std.specs.Prelude.{◌≡◌, ◌≤◌, OnOk, OnErr, IsErrOf};
+ghost use Rattle.std.specs.Prelude.{ℕ, ◌≡◌, ◌≤◌, take, OnOk, OnErr, IsErrOf};
 ghost use Rattle.std.specs.List.{concat};
 ghost use Rattle.std.specs.Io.KnownBytes.{Appends};
 ghost use Rattle.mre_outside.specs.Faults.{Rose};
@@ -11,9 +11,12 @@ use mre_outside::{Sink, SinkStop};
 pub fn write_lines<S: Sink>(sink: &mut S, lines: &List<Text>) -> Result<(), SinkStop>
     ensures ok { OnOk result (Appends (S.written sink.old) (S.written sink.new) (concat lines.now)) }
     ensures err { OnErr result (AppendsPrefix (S.written sink.old) (S.written sink.new) (concat lines.now)) }
+    ensures no_memory { IsErrOf result SinkStop.NoMemory → (count : ℕ)
+        × Appends (S.written sink.old) (S.written sink.new) (concat (take count lines.now)) }
     ensures failed { IsErrOf result SinkStop.Failed → Rose (S.faults sink.old) (S.faults sink.new) }
     ensures never_falls { S.faults sink.old ≤ S.faults sink.new }
     ensures sound { S.is_sound sink.old → ¬ IsErrOf result SinkStop.Failed }
+    ensures stays_sound { S.is_sound sink.old → S.is_sound sink.new }
 {
     for place in 0..lines.len() {
         if let Err(stop) = write_line(sink, lines.item(place)) {
@@ -27,6 +30,7 @@ pub fn write_lines<S: Sink>(sink: &mut S, lines: &List<Text>) -> Result<(), Sink
 fn write_line<S: Sink>(sink: &mut S, line: &Text) -> Result<(), SinkStop>
     ensures ok { OnOk result (Appends (S.written sink.old) (S.written sink.new) line.now) }
     ensures err { OnErr result (AppendsPrefix (S.written sink.old) (S.written sink.new) line.now) }
+    ensures no_memory { IsErrOf result SinkStop.NoMemory → S.written sink.new ≡ S.written sink.old }
     ensures failed { IsErrOf result SinkStop.Failed → Rose (S.faults sink.old) (S.faults sink.new) }
     ensures never_falls { S.faults sink.old ≤ S.faults sink.new }
     ensures sound { S.is_sound sink.old → ¬ IsErrOf result SinkStop.Failed }

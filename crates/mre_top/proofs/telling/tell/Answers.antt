@@ -1,24 +1,38 @@
-use Rattle.std.proofs.Common.{inr, subst, take}
+use Rattle.std.proofs.Common.{◌∙◌, [], Err, ap, arith, inr, refl, subst, take}
 use Rattle.std.specs.List.{concat}
-use Rattle.mre_outside.specs.Sinks.{AppendsPrefix}
-use Rattle.mre_top.specs.Refusals.{memory_line, lines_of}
-use Rattle.mre_top.proofs.Written.{Appends-twice}
+use Rattle.std.specs.Io.KnownBytes.{Appends}
+use Rattle.mre_top.specs.Refusals.{memory_line}
+use Rattle.mre_top.specs.Telling.{first_told}
+use Rattle.mre_top.proofs.Written.{Appends-nothing, written_behind}
 use Rattle.mre_top.proofs.telling.tell.Goals as goal
 
-pub returns-in_default-lines : goal.returns-in_default-lines
-returns-in_default-lines g c =
-    let told = c.tell_no_memory-in_default-lines.ensures in inr (told.status, 0, told.told.0, told.told.1)
-
-pub returns : goal.returns
-returns g c =
+pub returns-in_default-lines-clause-told : goal.returns-in_default-lines-clause-told
+returns-in_default-lines-clause-told g c =
+    let sound = g.E.Sink.is_sound c.args.faults.now in
     let old = g.E.Sink.written c.args.faults.now in
-    let mid = g.E.Sink.written c.write_lines.new.sink in
-    let new = g.E.Sink.written c.tell_no_memory-in-Err-NoMemory.new.faults in
-    let told = c.tell_no_memory-in-Err-NoMemory.ensures.told in
-    let part = subst (λ lines. AppendsPrefix old mid (concat lines)) c.in-Ok.ensures.ok c.in-Err-NoMemory.ensures.err in
+    let before = g.E.Sink.faults c.args.faults.now in
+    let new = c.tell_no_memory-in_default-lines.new.faults in
+    let told = c.tell_no_memory-in_default-lines.ensures in
     inr (
-      c.tell_no_memory-in-Err-NoMemory.ensures.status,
-      part.0,
-      told.0,
-      Appends-twice old mid new (take part.0 (concat (lines_of c.args.files.now c.args.refusal.now))) (take told.0 memory_line) part.1 told.1,
+      told.status,
+      (0, written_behind sound sound (λ s. s) [] memory_line old old (g.E.Sink.written new) before before (g.E.Sink.faults new) (omega arith) (Appends-nothing old old refl) told.told),
+    )
+
+pub returns-clause-told : goal.returns-clause-told
+returns-clause-told g c =
+    let old = c.args.faults.now in
+    let mid = c.write_lines.new.sink in
+    let new = c.tell_no_memory-in-Err-NoMemory.new.faults in
+    let told = c.tell_no_memory-in-Err-NoMemory.ensures in
+    let first = c.write_lines.ensures.no_memory (c.in-Err-NoMemory.is ∙ ap Err c.in-Err-NoMemory.field-0-is) in
+    let start = subst (λ lines. Appends (g.E.Sink.written old) (g.E.Sink.written mid) (concat (take first.0 lines))) c.in-Ok.ensures.ok first.1 in
+    inr (
+      told.status,
+      (
+        first.0,
+        written_behind (g.E.Sink.is_sound old) (g.E.Sink.is_sound mid) c.write_lines.ensures.stays_sound
+            (first_told c.args.files.now c.args.refusal.now first.0) memory_line
+            (g.E.Sink.written old) (g.E.Sink.written mid) (g.E.Sink.written new) (g.E.Sink.faults old) (g.E.Sink.faults mid) (g.E.Sink.faults new)
+            c.write_lines.ensures.never_falls start told.told,
+      ),
     )
