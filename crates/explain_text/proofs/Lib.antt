@@ -1,4 +1,3 @@
 pub mod LawLemmas
 mod NumberLemmas
 mod SentenceLemmas
-mod TestLemmas

@@ -4,8 +4,6 @@
 mod laws;
 mod lines;
 mod sentences;
-#[cfg(test)]
-mod tests;
 
 pub use laws::law_text;
 pub use lines::{list_of, text_of};

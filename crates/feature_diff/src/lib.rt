@@ -13,8 +13,6 @@ mod pair;
 mod rows;
 mod schema_parts;
 mod spots;
-#[cfg(test)]
-mod tests;
 mod told;
 mod worths;
 

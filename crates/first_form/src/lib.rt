@@ -13,8 +13,6 @@ mod problem;
 mod reading;
 mod schema;
 mod stop;
-#[cfg(test)]
-mod tests;
 mod texts;
 mod trees;
 

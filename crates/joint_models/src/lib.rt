@@ -11,8 +11,6 @@ mod numbers;
 mod renaming;
 mod spelling;
 mod stop;
-#[cfg(test)]
-mod tests;
 mod words;
 
 pub use joining::{JointModels, join_models};

@@ -11,8 +11,6 @@ mod laws;
 mod model;
 mod printing;
 mod state;
-#[cfg(test)]
-mod tests;
 mod values;
 mod vocabulary;
 

@@ -8,8 +8,6 @@ mod question;
 mod reading;
 mod refusal;
 mod telling;
-#[cfg(test)]
-mod tests;
 mod top;
 mod words;
 mod writing;

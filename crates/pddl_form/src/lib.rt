@@ -15,8 +15,6 @@ mod reading;
 mod seen;
 mod sort;
 mod table;
-#[cfg(test)]
-mod tests;
 mod typed;
 mod words;
 

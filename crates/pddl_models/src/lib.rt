@@ -7,8 +7,6 @@ mod body;
 mod domain;
 mod facts;
 mod laws;
-#[cfg(test)]
-mod model_tests;
 mod models;
 mod roles_law;
 mod unrepeated;

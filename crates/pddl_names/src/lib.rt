@@ -4,8 +4,6 @@
 mod arities;
 mod calls;
 mod checking;
-#[cfg(test)]
-mod checking_tests;
 mod climbing;
 mod firsts;
 mod forests;
@@ -18,16 +16,12 @@ mod listing;
 mod misnaming;
 mod name_tables;
 mod names;
-#[cfg(test)]
-mod naming_tests;
 mod plan;
 mod repeats;
 mod role;
 mod rules;
 mod step;
 mod terms;
-#[cfg(test)]
-mod tests;
 mod type_tree;
 mod values_twice;
 mod words;

@@ -3,8 +3,6 @@
 
 mod laws;
 mod reading;
-#[cfg(test)]
-mod tests;
 
 pub use laws::{law_domains, law_problems};
 pub use pddl_models::{Body, Domain};

@@ -1,11 +1,9 @@
 //! A small program over the readers of PDDL: prints what a domain, a problem or a plan holds, or its first fault.
 #![tactic(auto)]
 
-mod forms;
-mod models;
 mod reading;
-mod rules;
 
+use model_lines::fault_text;
 use mre_base::NoMemory;
 use mre_outside::{FileShelf, Sink, StdSink};
 use reading::{Stop, read_texts};
@@ -46,8 +44,12 @@ fn line_of(alloc: Global, stop: &Stop, names: &[String]) -> Result<(String, u8),
             Ok((line, PAST_LIMIT))
         }
         Stop::Fault { file, fault } => {
-            let line = rules::line_of(alloc, name_at(names, *file), fault)?;
-            Ok((line, FAULT))
+            let name = name_at(names, *file);
+            let text = fault_text(alloc, fault)?;
+            Ok((
+                format!(in alloc; "mre: {name}:{}\n", text.as_str())?,
+                FAULT,
+            ))
         }
         Stop::NoMemory => Err(NoMemory),
     }

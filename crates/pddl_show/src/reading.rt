@@ -2,7 +2,7 @@
 ghost use Rattle.std.specs.Prelude.{◌≤◌, ◌^◌, length, IfOk};
 ghost use Rattle.pddl_read.specs.Texts.{AreFew};
 
-use crate::models::{domain_text, model_text, plan_text};
+use model_lines::{domain_text, model_text, plan_text};
 use mre_base::NoMemory;
 use mre_outside::{Shelf, ShelfStop};
 use pddl_read::{Domain, read_domain, read_plan, read_problem};

@@ -8,8 +8,6 @@ mod laws;
 mod place;
 mod plan;
 mod reading;
-#[cfg(test)]
-mod tests;
 mod tree;
 
 pub use fault::{ReadStop, TextFault, TextRule};

@@ -7,6 +7,5 @@ pub mod PigeonLemmas
 pub mod ChainLemmas
 pub mod TypeSound
 pub mod FormedLemmas
-pub mod VocabularyVectors
 pub mod FewLemmas
 pub mod SomeVocabulary

@@ -7,8 +7,6 @@ mod vocabularies;
 mod vocabulary_copies;
 mod vocabulary_firsts;
 mod vocabulary_lists;
-#[cfg(test)]
-mod vocabulary_tests;
 mod vocabulary_types;
 
 pub use formed::law_formed;

@@ -5,8 +5,6 @@ mod answer;
 mod keeping;
 mod numbering;
 mod subsets;
-#[cfg(test)]
-mod tests;
 mod trying;
 
 pub use answer::{FirstComplete, Foil, cheaper_list, first_complete};
