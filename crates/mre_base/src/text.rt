@@ -34,7 +34,7 @@ impl PartialEq for Text {
     ghost laws = { partial_equiv_from_equiv nat_list_eq_equiv };
 
     fn eq(&self, other: &Text) -> bool {
-        self.as_str() == other.as_str()
+        self.bytes.as_slice() == other.bytes.as_slice()
     }
 }
 
@@ -59,7 +59,7 @@ impl Ord for Text {
     ghost matches_eq = { λ x y. texts_ties x y };
 
     fn cmp(&self, other: &Text) -> Ordering {
-        self.as_str().cmp(other.as_str())
+        self.bytes.as_slice().cmp(&other.bytes.as_slice())
     }
 }
 
@@ -97,13 +97,18 @@ impl Text {
     pub fn copy(&self, alloc: Global) -> Result<Text, NoMemory>
         ensures ok { IfOk result (λ made. made ≡ self.now) }
     {
-        Text::of(alloc, self.as_str())
+        Ok(Text {
+            bytes: SmallVec::from_slice(alloc, self.bytes.as_slice())?,
+        })
     }
 
     pub fn as_str(&self) -> &str
         ensures { result.now ≡ self.now }
     {
-        unsafe { str::from_utf8_unchecked(self.bytes.as_slice()) }
+        match str::from_utf8(self.bytes.as_slice()) {
+            Ok(text) => text,
+            Err(_) => unreachable!(),
+        }
     }
 
     pub fn bytes(&self) -> &[u8]
