@@ -1,5 +1,5 @@
 -- What a refusal leaves on the sink of faults, and the status that the call ends with.
-use Rattle.std.specs.Prelude.{◌≡◌, ◌⊎◌, ℕ, List, ◌++◌, take, Option}
+use Rattle.std.specs.Prelude.{◌≡◌, ◌<◌, ◌⊎◌, ℕ, List, ◌++◌, length, take, Option}
 use Rattle.std.specs.List.{concat}
 use Rattle.std.specs.Io.KnownBytes.{Appends}
 use Rattle.mre_outside.specs.Faults.{Rose}
@@ -19,10 +19,10 @@ told_by names refusal = concat (lines_of names refusal)
 abbrev pub first_told : List (List ℕ) → Refusal → ℕ → List ℕ
 first_told names refusal count = concat (take count (lines_of names refusal))
 
--- memory ran out: the first lines of the refusal were written whole, and behind them nothing, or the line of want of memory
+-- memory ran out: the first lines of the refusal, not all of them, were written whole, and behind them nothing, or the line of want of memory
 abbrev pub IsToldInWant : Type 0 → List (List ℕ) → Refusal → Option (List ℕ) → Option (List ℕ) → ℕ → ℕ → Type 0
 IsToldInWant sound names refusal old new faults_old faults_new =
-    (count : ℕ)
+    (count : ℕ) × (count < length (lines_of names refusal))
     × (Appends old new (first_told names refusal count) ⊎ IsWritten sound (first_told names refusal count ++ memory_line) old new faults_old faults_new)
 
 -- the call ends with the refusal's status, and its lines were written; or memory ran out while they were told

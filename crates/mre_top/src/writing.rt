@@ -1,4 +1,4 @@
-ghost use Rattle.std.specs.Prelude.{ℕ, ◌≡◌, ◌≤◌, take, OnOk, OnErr, IsErrOf};
+ghost use Rattle.std.specs.Prelude.{ℕ, ◌≡◌, ◌<◌, ◌≤◌, length, take, OnOk, OnErr, IsErrOf};
 ghost use Rattle.std.specs.List.{concat};
 ghost use Rattle.std.specs.Io.KnownBytes.{Appends};
 ghost use Rattle.mre_outside.specs.Faults.{Rose};
@@ -11,7 +11,7 @@ use mre_outside::{Sink, SinkStop};
 pub fn write_lines<S: Sink>(sink: &mut S, lines: &List<Text>) -> Result<(), SinkStop>
     ensures ok { OnOk result (Appends (S.written sink.old) (S.written sink.new) (concat lines.now)) }
     ensures err { OnErr result (AppendsPrefix (S.written sink.old) (S.written sink.new) (concat lines.now)) }
-    ensures no_memory { IsErrOf result SinkStop.NoMemory → (count : ℕ)
+    ensures no_memory { IsErrOf result SinkStop.NoMemory → (count : ℕ) × (count < length lines.now)
         × Appends (S.written sink.old) (S.written sink.new) (concat (take count lines.now)) }
     ensures failed { IsErrOf result SinkStop.Failed → Rose (S.faults sink.old) (S.faults sink.new) }
     ensures never_falls { S.faults sink.old ≤ S.faults sink.new }

@@ -1,4 +1,4 @@
-use Rattle.std.proofs.Common.{◌∙◌, [], Err, ap, arith, inr, refl, subst, take}
+use Rattle.std.proofs.Common.{◌∙◌, ◌<◌, ℕ, List, [], Err, ap, arith, inr, length, refl, subst, take}
 use Rattle.std.specs.List.{concat}
 use Rattle.std.specs.Io.KnownBytes.{Appends}
 use Rattle.mre_top.specs.Refusals.{memory_line}
@@ -15,7 +15,11 @@ returns-in_default-lines-clause-told g c =
     let told = c.tell_no_memory-in_default-lines.ensures in
     inr (
       told.status,
-      (0, written_behind sound sound (λ s. s) [] memory_line old old (g.E.Sink.written new) before before (g.E.Sink.faults new) (omega arith) (Appends-nothing old old refl) told.told),
+      (
+        0,
+        omega arith,
+        written_behind sound sound (λ s. s) [] memory_line old old (g.E.Sink.written new) before before (g.E.Sink.faults new) (omega arith) (Appends-nothing old old refl) told.told,
+      ),
     )
 
 pub returns-clause-told : goal.returns-clause-told
@@ -25,11 +29,13 @@ returns-clause-told g c =
     let new = c.tell_no_memory-in-Err-NoMemory.new.faults in
     let told = c.tell_no_memory-in-Err-NoMemory.ensures in
     let first = c.write_lines.ensures.no_memory (c.in-Err-NoMemory.is ∙ ap Err c.in-Err-NoMemory.field-0-is) in
-    let start = subst (λ lines. Appends (g.E.Sink.written old) (g.E.Sink.written mid) (concat (take first.0 lines))) c.in-Ok.ensures.ok first.1 in
+    let start = subst (λ lines. Appends (g.E.Sink.written old) (g.E.Sink.written mid) (concat (take first.0 lines))) c.in-Ok.ensures.ok first.2 in
+    let fewer = subst (λ (lines : List (List ℕ)). first.0 < length lines) c.in-Ok.ensures.ok first.1 in
     inr (
       told.status,
       (
         first.0,
+        fewer,
         written_behind (g.E.Sink.is_sound old) (g.E.Sink.is_sound mid) c.write_lines.ensures.stays_sound
             (first_told c.args.files.now c.args.refusal.now first.0) memory_line
             (g.E.Sink.written old) (g.E.Sink.written mid) (g.E.Sink.written new) (g.E.Sink.faults old) (g.E.Sink.faults mid) (g.E.Sink.faults new)

@@ -20,6 +20,7 @@ loop-place-preserved g c = record {
 pub returns-in-Err-clause-no_memory : goal.returns-in-Err-clause-no_memory
 returns-in-Err-clause-no_memory g c e = (
   c.loop-place.place,
+  omega arith,
   subst (λ told. Appends (g.S.Sink.written c.args.sink.now) told (concat (take c.loop-place.place c.args.lines.now)))
       (sym (c.write_line.ensures.no_memory (c.in-Err.is ∙ e))) c.loop-place.invariant.written,
 )
