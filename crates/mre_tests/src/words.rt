@@ -1,10 +1,10 @@
 ghost use Rattle.std.specs.Prelude.{◌^◌, ◌<◌, length};
 
+use mre_base::List;
 use pddl_text::{
     Forest, Place, PlanLine, ReadStop, TextRule, Tree, law_forests, law_plans, law_tokens,
     read_forest, read_plan_lines,
 };
-use mre_base::List;
 use std::alloc::{AllocError, Global};
 use std::test::Fail;
 
