@@ -1,4 +1,5 @@
 mod answers;
+mod failing_calls;
 mod making;
 mod order;
 mod reads;
