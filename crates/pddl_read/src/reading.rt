@@ -40,7 +40,8 @@ fn domain_words(alloc: Global, bytes: &[u8]) -> Result<List<Word>, ReadStop>
         Ok(forest) => forest,
         Err(stop) => return Err(stop),
     };
-    let met = match read_domain_form(alloc, &forest) {
+    let formed = read_domain_form(alloc, &forest);
+    let met = match formed {
         Ok(met) => met,
         Err(stop) => return Err(stop),
     };
