@@ -25,7 +25,7 @@ pub(crate) trait Spot<K>: Copied {
         ensures { result ≡ same_place (place_of difference.now) (place kind.now self.now) };
 }
 
-// What of an action is no list.
+// The two places of an action that aren't lists of atoms: whether it is known, and its cost.
 #[derive(Clone, Copy)]
 pub(crate) enum ActionKind {
     Knows,

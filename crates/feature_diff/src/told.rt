@@ -32,7 +32,7 @@ pub(crate) trait Told<K> {
     fn tell_alone(&self, alloc: Global, kind: &K, planner_has: bool) -> Result<Difference, NoMemory>
         ensures ok { IfOk result (λ difference. difference ≡ alone kind.now self.now planner_has) };
 
-    // The difference where both models have something under one form, if it is one.
+    // The difference between what both models have under one printed form, or none where it is the same.
     fn tell_both(
         &self,
         user: &Self,

@@ -9,6 +9,7 @@ use mre_outside::{FileShelf, Sink, StdSink};
 use reading::{Stop, read_texts};
 use std::alloc::Global;
 use std::env;
+use std::io::ErrorKind;
 use std::process::ExitCode;
 
 /// The statuses of `mre`: usage, a failed read, a failed write, a fault, a file past its limit, want of memory.
@@ -46,10 +47,7 @@ fn line_of(alloc: Global, stop: &Stop, names: &[String]) -> Result<(String, u8),
         Stop::Fault { file, fault } => {
             let name = name_at(names, *file);
             let text = fault_text(alloc, fault)?;
-            Ok((
-                format!(in alloc; "mre: {name}:{}\n", text.as_str())?,
-                FAULT,
-            ))
+            Ok((format!(in alloc; "mre: {name}:{}\n", text.as_str())?, FAULT))
         }
         Stop::NoMemory => Err(NoMemory),
     }
@@ -64,8 +62,12 @@ fn name_at(names: &[String], file: usize) -> &str {
 
 fn main(rt: HostRuntime) -> ExitCode {
     let alloc = rt.alloc();
-    let Ok(mut arguments) = env::args(&rt) else {
-        return ExitCode::from(USAGE);
+    let mut arguments = match env::args(&rt) {
+        Ok(arguments) => arguments,
+        Err(error) => {
+            let wants_memory = error.kind() == ErrorKind::OutOfMemory;
+            return ExitCode::from(if wants_memory { NO_MEMORY } else { USAGE });
+        }
     };
     let _program = arguments.next();
     let Ok(names) = arguments.collect::<Vec<String>>(alloc) else {
