@@ -2,7 +2,7 @@ use Rattle.std.proofs.Common.{◌≡◌, ◌∙◌, ap, subst, arith}
 use Rattle.std.specs.Prelude.{IsTrue}
 use Rattle.std.specs.FinSet as set
 use Rattle.feature_diff.proofs.OneListLemmas.{told_numbers, only_number}
-use Rattle.mre_tests.proofs.differing.after.Goals as goal
+use Rattle.model_tests.proofs.differing.after.Goals as goal
 
 pub patched-requires : goal.patched-requires
 patched-requires c = record {

@@ -2,10 +2,8 @@
 ghost use Rattle.std.specs.Prelude.{◌^◌, IfOk};
 ghost use Rattle.pddl_read.specs.Texts.{AreFew};
 
-use feature_diff::Pair;
 use model_kit::Model;
 use model_lines::fault_text;
-use mre_base::{List, Text};
 use pddl_read::{Domain, read_domain, read_problem};
 use pddl_text::ReadStop;
 use std::alloc::Global;
@@ -92,26 +90,4 @@ pub fn assert_problems(
         assert_eq!(rt; found.as_str(), wanted, "{sections}");
     }
     Ok(())
-}
-
-/// The planner's domain and problem, and the user's.
-pub type Texts<'a> = [&'a str; 4];
-
-/// The two models of four texts, side by side.
-pub fn pair_of(rt: &impl Abort, alloc: Global, texts: Texts<'_>) -> Result<Pair, Fail> {
-    let [pd, pp, ud, up] = texts;
-    let planner = model(rt, alloc, pd, pp)?;
-    let user = model(rt, alloc, ud, up)?;
-    assert!(rt; planner.unknown.is_empty());
-    assert!(rt; user.unknown.is_empty());
-    Ok(Pair::pair(alloc, planner, user)?)
-}
-
-/// Lines as one text.
-pub fn joined(alloc: Global, lines: &List<Text>) -> Result<String, Fail> {
-    let mut text = String::new(alloc);
-    for place in 0..lines.len() {
-        text.push_str(lines.item(place).as_str())?;
-    }
-    Ok(text)
 }
