@@ -1,0 +1,110 @@
+-- Lists of cases: the atoms of those that pass a test, one case after another.
+use Rattle.std.proofs.Common.{◌≡◌, ℕ, zero, suc, ◌+◌, ◌<◌, Bool, true, false, cond, List, [], ◌∷◌, ◌++◌, take, map, filter, Some, All, refl, sym, ap, ◌∙◌, arith, subst, ◌⊎◌, inl, inr}
+use Rattle.std.specs.Prelude.{Contains, slice_get}
+use Rattle.std.specs.Ordering.{nat_cmp}
+use Rattle.std.specs.FinSet as set
+use Rattle.std.specs.Cmp.{nat_cmp_total}
+use Rattle.std.specs.FinSet.{contains-empty, from_list_push, nat_cmp-IsAntisymmetric}
+use Rattle.std.proofs.lemmas.Bool.{or_cases, or_left, or_right, eq-eqb, eqb-true, false≢true}
+use Rattle.std.proofs.lemmas.List.{take_more, map-append}
+use Rattle.std.proofs.lemmas.List.Elements.{filter-append, All-filter, All-map}
+use Rattle.std.proofs.lemmas.Option.{slice_get_within, get_or_from_slice_get}
+use Rattle.mre_base.proofs.SetsBelow.{contains-insert_nat}
+use Rattle.task_kit.specs.Tasks.{Numbers, set_of}
+use Rattle.case_kit.specs.declared.cases.When.{When}
+use Rattle.case_kit.specs.declared.cases.Case.{Case}
+use Rattle.case_kit.specs.Evaluated.{atoms_where}
+
+-- the items up to a place, and the item there
+pub take_next : {X : Type 0} (xs : List X) (i : ℕ) (x : X) → slice_get xs i ≡ Some x → take (i + 1) xs ≡ take i xs ++ x ∷ []
+take_next xs i x e = take_more xs i x (slice_get_within xs i x e) ∙ ap (λ y. take i xs ++ y ∷ []) (get_or_from_slice_get xs i x x e)
+
+-- ---- what stands in a list
+pub contains_cases : {X : Type 0} (x : X) (xs : List X) (y : X) → Contains (x ∷ xs) y → (x ≡ y) ⊎ Contains xs y
+contains_cases x xs y (zero, lt, e) = inl e
+contains_cases x xs y (suc i, lt, e) = inr (i, omega arith, e)
+
+pub contains_here : {X : Type 0} (x : X) (xs : List X) → Contains (x ∷ xs) x
+contains_here x xs = (0, omega arith, refl)
+
+pub contains_later : {X : Type 0} (x : X) (xs : List X) (y : X) → Contains xs y → Contains (x ∷ xs) y
+contains_later x xs y (i, lt, e) = (suc i, omega arith, e)
+
+-- ---- one more case
+none_more : (xs : List ℕ) → xs ++ [] ≡ xs
+none_more [] = refl
+none_more (x ∷ xs) = ap (λ zs. x ∷ zs) (none_more xs)
+
+pub where_pushed : (test : When → Bool) (cases : List Case) (case : Case) →
+    atoms_where test (cases ++ case ∷ []) ≡ cond (test case.when) (atoms_where test cases ++ case.atom ∷ []) (atoms_where test cases)
+where_pushed test cases case =
+    ap (map (λ c. c.atom)) (filter-append (λ c. test c.when) cases (case ∷ [])) ∙ map-append (λ (c : Case). c.atom) (filter (λ c. test c.when) cases) (filter (λ c. test c.when) (case ∷ [])) ∙ by (test case.when)
+  where
+    by : (b : Bool) → atoms_where test cases ++ map (λ (c : Case). c.atom) (cond b (case ∷ []) []) ≡ cond b (atoms_where test cases ++ case.atom ∷ []) (atoms_where test cases)
+    by true = refl
+    by false = none_more (atoms_where test cases)
+
+pub where_next : (test : When → Bool) (cases : List Case) (i : ℕ) (case : Case) (b : Bool) → slice_get cases i ≡ Some case → test case.when ≡ b →
+    atoms_where test (take (i + 1) cases) ≡ cond b (atoms_where test (take i cases) ++ case.atom ∷ []) (atoms_where test (take i cases))
+where_next test cases i case b at e =
+    ap (atoms_where test) (take_next cases i case at) ∙ where_pushed test (take i cases) case
+    ∙ ap (λ c. cond c (atoms_where test (take i cases) ++ case.atom ∷ []) (atoms_where test (take i cases))) e
+
+-- ---- the atoms as a set
+has_inserted : (s : Numbers) (p : ℕ) → set.contains (set.insert s p) p ≡ true
+has_inserted s p = contains-insert_nat s p p ∙ or_left _ _ (eq-eqb p p refl)
+
+has_before : (s : Numbers) (p k : ℕ) → set.contains s k ≡ true → set.contains (set.insert s p) k ≡ true
+has_before s p k there = contains-insert_nat s p k ∙ or_right _ _ there
+
+insert_cases : (s : Numbers) (p k : ℕ) → set.contains (set.insert s p) k ≡ true → (k ≡ p) ⊎ (set.contains s k ≡ true)
+insert_cases s p k there = elim (or_cases _ _ (sym (contains-insert_nat s p k) ∙ there)) [ inl e ↦ inl (eqb-true k p e) | inr h ↦ inr h ]
+
+-- a case of the list passes the test and has the atom
+abbrev pub IsTaken : (When → Bool) → List Case → ℕ → Type 0
+IsTaken test cases k = (case : Case) × Contains cases case × (test case.when ≡ true) × (case.atom ≡ k)
+
+pub in_where : (test : When → Bool) (cases : List Case) (k : ℕ) → set.contains (set_of (atoms_where test cases)) k ≡ true → IsTaken test cases k
+in_where test [] k there = absurd (false≢true (sym (contains-empty nat_cmp k) ∙ there))
+in_where test (case ∷ cases) k there = by (test case.when) refl there (in_where test cases k) where
+  later : IsTaken test cases k → IsTaken test (case ∷ cases) k
+  later (c, among, on, is) = (c, contains_later case cases c among, on, is)
+
+  by : (b : Bool) → test case.when ≡ b → set.contains (set_of (map (λ (c : Case). c.atom) (cond b (case ∷ filter (λ c. test c.when) cases) (filter (λ c. test c.when) cases)))) k ≡ true
+      → (set.contains (set_of (atoms_where test cases)) k ≡ true → IsTaken test cases k) → IsTaken test (case ∷ cases) k
+  by true on h rest =
+      elim (insert_cases (set_of (atoms_where test cases)) case.atom k h) [
+        | inl same ↦ (case, contains_here case cases, on, sym same)
+        | inr before ↦ later (rest before)
+      ]
+  by false off h rest = later (rest h)
+
+pub where_has : (test : When → Bool) (cases : List Case) (case : Case) → Contains cases case → test case.when ≡ true → set.contains (set_of (atoms_where test cases)) case.atom ≡ true
+where_has test [] case (i, lt, e) on = absurd (omega arith)
+where_has test (first ∷ cases) case among on = by (test first.when) refl (where_has test cases case) where
+  by : (b : Bool) → test first.when ≡ b → (Contains cases case → test case.when ≡ true → set.contains (set_of (atoms_where test cases)) case.atom ≡ true)
+      → set.contains (set_of (map (λ (c : Case). c.atom) (cond b (first ∷ filter (λ c. test c.when) cases) (filter (λ c. test c.when) cases)))) case.atom ≡ true
+  by true first_on rest =
+      elim (contains_cases first cases case among) [
+        | inl same ↦ subst (λ (c : Case). set.contains (set.insert (set_of (atoms_where test cases)) first.atom) c.atom ≡ true) same (has_inserted (set_of (atoms_where test cases)) first.atom)
+        | inr later ↦ has_before (set_of (atoms_where test cases)) first.atom case.atom (rest later on)
+      ]
+  by false first_off rest =
+      elim (contains_cases first cases case among) [
+        | inl same ↦ absurd (false≢true (sym first_off ∙ ap (λ (c : Case). test c.when) same ∙ on))
+        | inr later ↦ rest later on
+      ]
+
+-- the set with one case more
+pub set_next : (test : When → Bool) (cases : List Case) (i : ℕ) (case : Case) (b : Bool) → slice_get cases i ≡ Some case → test case.when ≡ b →
+    set_of (atoms_where test (take (i + 1) cases)) ≡ cond b (set.insert (set_of (atoms_where test (take i cases))) case.atom) (set_of (atoms_where test (take i cases)))
+set_next test cases i case b at e = ap set_of (where_next test cases i case b at e) ∙ by b where
+  by : (c : Bool) → set_of (cond c (atoms_where test (take i cases) ++ case.atom ∷ []) (atoms_where test (take i cases)))
+      ≡ cond c (set.insert (set_of (atoms_where test (take i cases))) case.atom) (set_of (atoms_where test (take i cases)))
+  by true = from_list_push nat_cmp_total nat_cmp-IsAntisymmetric (atoms_where test (take i cases)) case.atom
+  by false = refl
+
+-- each atom that is taken is below a bound
+pub where_below : (bound : ℕ) (test : When → Bool) (cases : List Case) → All (λ case. case.atom < bound) cases → All (λ x. x < bound) (atoms_where test cases)
+where_below bound test cases below =
+    All-map (λ x. x < bound) (λ (c : Case). c.atom) (filter (λ c. test c.when) cases) (All-filter (λ c. test c.when) (λ c. c.atom < bound) cases below)

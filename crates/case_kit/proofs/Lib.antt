@@ -1,0 +1,10 @@
+pub mod BestLemmas
+pub mod CaseLists
+pub mod EasierLemmas
+pub mod MadeLemmas
+pub mod MemberLemmas
+pub mod PriceLemmas
+pub mod RelaxedLemmas
+pub mod SoundLemmas
+pub mod TableLemmas
+pub mod TakenLemmas

@@ -1,0 +1,5 @@
+pub mod Evaluated
+pub mod Laws
+pub mod Members
+pub mod Relaxed
+pub mod Sound

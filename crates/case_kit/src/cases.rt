@@ -1,0 +1,17 @@
+/// When a case is on. The differences count from 1.
+#[derive(Clone, Copy, Debug)]
+pub enum When {
+    /// In both models.
+    Always,
+    /// In the planner's model alone: where this difference is told.
+    IfTold(u32),
+    /// In the user's model alone: where this difference is left.
+    IfLeft(u32),
+}
+
+/// An atom by its number, and when it is meant.
+#[derive(Clone, Copy, Debug)]
+pub struct Case {
+    pub atom: u32,
+    pub when: When,
+}

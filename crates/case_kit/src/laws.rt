@@ -1,0 +1,17 @@
+ghost use Rattle.case_kit.specs.Laws.{ListLaw, MemberLaw, RelaxedLaw};
+
+/// The two tasks of a cube, which are made case by case, are exactly those that its members determine.
+pub fn law_relaxed()
+    ensures { RelaxedLaw }
+{}
+
+/// A member depends on the numbers from 1 to d alone, and where a cube has decided all of them both its tasks are its one member.
+pub fn law_members()
+    ensures { MemberLaw }
+{}
+
+/// What is valid in a member is valid in the permissive task, and what is valid in the restrictive task is valid in each member, at no
+/// greater cost. The two tasks of an inner cube are between those of the outer one.
+pub fn law_lists()
+    ensures { ListLaw }
+{}
