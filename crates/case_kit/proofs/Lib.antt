@@ -6,5 +6,6 @@ pub mod MemberLemmas
 pub mod PriceLemmas
 pub mod RelaxedLemmas
 pub mod SoundLemmas
+pub mod SumLemmas
 pub mod TableLemmas
 pub mod TakenLemmas

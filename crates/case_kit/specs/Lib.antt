@@ -3,3 +3,4 @@ pub mod Laws
 pub mod Members
 pub mod Relaxed
 pub mod Sound
+pub mod Sums

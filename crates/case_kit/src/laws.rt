@@ -1,4 +1,5 @@
 ghost use Rattle.case_kit.specs.Laws.{ListLaw, MemberLaw, RelaxedLaw};
+ghost use Rattle.case_kit.specs.Sums.{SumLaw};
 
 /// The two tasks of a cube, which are made case by case, are exactly those that its members determine.
 pub fn law_relaxed()
@@ -14,4 +15,10 @@ pub fn law_members()
 /// greater cost. The two tasks of an inner cube are between those of the outer one.
 pub fn law_lists()
     ensures { ListLaw }
+{}
+
+/// What a list costs in a member lies between its least and its greatest cost over the cube, where an absent cost is above every number,
+/// and so do its least and greatest costs over an inner cube.
+pub fn law_sums()
+    ensures { SumLaw }
 {}

@@ -168,10 +168,11 @@ impl CaseTable {
         ensures in_range { IfOk result (λ made. IsAction self.now.atoms (action_meaning made)) }
     {
         let cases = self.actions.item(action as usize);
+        let against = way.opposite();
         Ok(TaskAction {
-            pre: atoms_by(alloc, &cases.pre, cube, way.opposite())?,
+            pre: atoms_by(alloc, &cases.pre, cube, against)?,
             add: atoms_by(alloc, &cases.add, cube, way)?,
-            del: atoms_by(alloc, &cases.del, cube, way.opposite())?,
+            del: atoms_by(alloc, &cases.del, cube, against)?,
             cost: known_cost_by(cases, cube, way),
         })
     }

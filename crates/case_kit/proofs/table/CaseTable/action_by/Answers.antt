@@ -12,12 +12,12 @@ pub returns-clause-is : goal.returns-clause-is
 returns-clause-is c =
     action_made c.args.self.now c.args.cube.now c.args.way c.args.action c.item-cases.result.now c.item-cases.ensures
     (record { pre = c.in_ok-atoms_by.field-0; add = c.in_ok-atoms_by-2.field-0; del = c.in_ok-atoms_by-3.field-0; cost = c.known_cost_by.result })
-    (c.in_ok-atoms_by.ensures ∙ ap (λ w. atoms_where (counts w c.args.cube.now) c.item-cases.result.now.pre) c.opposite.ensures) c.in_ok-atoms_by-2.ensures
-    (c.in_ok-atoms_by-3.ensures ∙ ap (λ w. atoms_where (counts w c.args.cube.now) c.item-cases.result.now.del) c.opposite-2.ensures) c.known_cost_by.ensures.is
+    (c.in_ok-atoms_by.ensures ∙ ap (λ w. atoms_where (counts w c.args.cube.now) c.item-cases.result.now.pre) c.opposite-against.ensures) c.in_ok-atoms_by-2.ensures
+    (c.in_ok-atoms_by-3.ensures ∙ ap (λ w. atoms_where (counts w c.args.cube.now) c.item-cases.result.now.del) c.opposite-against.ensures) c.known_cost_by.ensures.is
 
 pub returns-clause-in_range : goal.returns-clause-in_range
 returns-clause-in_range c =
     action_fits c.args.self.now c.args.cube.now c.args.way c.args.action c.item-cases.result.now c.item-cases.ensures
     (record { pre = c.in_ok-atoms_by.field-0; add = c.in_ok-atoms_by-2.field-0; del = c.in_ok-atoms_by-3.field-0; cost = c.known_cost_by.result })
-    (c.in_ok-atoms_by.ensures ∙ ap (λ w. atoms_where (counts w c.args.cube.now) c.item-cases.result.now.pre) c.opposite.ensures) c.in_ok-atoms_by-2.ensures
-    (c.in_ok-atoms_by-3.ensures ∙ ap (λ w. atoms_where (counts w c.args.cube.now) c.item-cases.result.now.del) c.opposite-2.ensures) c.known_cost_by.ensures.fits
+    (c.in_ok-atoms_by.ensures ∙ ap (λ w. atoms_where (counts w c.args.cube.now) c.item-cases.result.now.pre) c.opposite-against.ensures) c.in_ok-atoms_by-2.ensures
+    (c.in_ok-atoms_by-3.ensures ∙ ap (λ w. atoms_where (counts w c.args.cube.now) c.item-cases.result.now.del) c.opposite-against.ensures) c.known_cost_by.ensures.fits
