@@ -1,0 +1,7 @@
+//! What is said of case tables, on tables of rows.
+#![tactic(auto)]
+
+#[cfg(test)]
+mod making;
+#[cfg(test)]
+mod tables;

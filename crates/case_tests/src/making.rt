@@ -1,0 +1,167 @@
+//! Small case tables for tests, from rows.
+ghost use Rattle.std.specs.Prelude.{◌≡◌, ◌+◌, ◌≤◌, All, length, IfOk, IfSome};
+ghost use Rattle.case_kit.specs.Sound.{is_value_listed, is_cost_listed, stands_in_value, stands_in_cost, is_apart, is_beside};
+ghost use Rattle.case_tests.specs.Sided.{is_sided, IsSided, IsSidedAction};
+
+use case_kit::{Case, CaseAction, CaseCost, CaseTable, CaseValue, When};
+use mre_base::{List, NoMemory};
+use std::alloc::Global;
+
+/// The cases of an action, its cost, and when a model knows it.
+#[derive(Clone, Copy)]
+pub struct Row<'a> {
+    pub pre: &'a [Case],
+    pub add: &'a [Case],
+    pub del: &'a [Case],
+    pub cost: CaseCost,
+    pub known: When,
+}
+
+/// How many differences there are, up to which of them the planner's model alone has what differs, and how many atoms there are.
+#[derive(Clone, Copy)]
+pub struct Size {
+    pub d: u32,
+    pub split: u32,
+    pub atoms: u32,
+}
+
+fn is_sided(size: Size, when: When) -> bool
+    ensures { result ≡ is_sided size.split size.d when }
+{
+    match when {
+        When::Always => true,
+        When::IfTold(place) => 1 <= place && place <= size.split,
+        When::IfLeft(place) => size.split < place && place <= size.d,
+    }
+}
+
+fn is_value_listed(d: u32, value: CaseValue) -> bool
+    ensures { result ≡ is_value_listed d value }
+{
+    match value {
+        CaseValue::One(_) => true,
+        CaseValue::Two { place, .. } => 1 <= place && place <= d,
+    }
+}
+
+fn is_cost_listed(d: u32, cost: CaseCost) -> bool
+    ensures { result ≡ is_cost_listed d cost }
+{
+    match cost {
+        CaseCost::One(value) => is_value_listed(d, value),
+        CaseCost::Two { place, told, left } => {
+            1 <= place && place <= d && is_value_listed(d, told) && is_value_listed(d, left)
+        }
+    }
+}
+
+fn stands_in_value(value: CaseValue, number: u32) -> bool
+    ensures { result ≡ stands_in_value value number }
+{
+    match value {
+        CaseValue::One(_) => false,
+        CaseValue::Two { place, .. } => place == number,
+    }
+}
+
+fn stands_in_cost(cost: CaseCost, number: u32) -> bool
+    ensures { result ≡ stands_in_cost cost number }
+{
+    match cost {
+        CaseCost::One(value) => stands_in_value(value, number),
+        CaseCost::Two { place, told, left } => {
+            place == number || stands_in_value(told, number) || stands_in_value(left, number)
+        }
+    }
+}
+
+fn is_apart(cost: CaseCost) -> bool
+    ensures { result ≡ is_apart cost }
+{
+    match cost {
+        CaseCost::One(_) => true,
+        CaseCost::Two { place, told, left } => {
+            !stands_in_value(told, place) && !stands_in_value(left, place)
+        }
+    }
+}
+
+fn is_beside(cost: CaseCost, when: When) -> bool
+    ensures { result ≡ is_beside cost when }
+{
+    match when {
+        When::Always => true,
+        When::IfTold(place) => !stands_in_cost(cost, place),
+        When::IfLeft(place) => !stands_in_cost(cost, place),
+    }
+}
+
+// The given cases that have an atom below the bound and a difference of their side.
+fn cases_of(alloc: Global, size: Size, bound: u32, cases: &[Case]) -> Result<List<Case>, NoMemory>
+    ensures { IfOk result (All (IsSided size.split size.d bound)) }
+{
+    let mut list = List::empty(alloc);
+    for &case in cases {
+        if case.atom < bound && is_sided(size, case.when) {
+            list.push(case)?;
+        }
+    }
+    Ok(list)
+}
+
+// The row's action, if its cost and its knowledge are on differences as a table has them.
+fn action_of(alloc: Global, size: Size, row: &Row<'_>) -> Result<Option<CaseAction>, NoMemory>
+    requires { size.atoms ≤ 4096 }
+    ensures { IfOk result (λ action. IfSome action (IsSidedAction size.split size.d size.atoms)) }
+{
+    if !is_sided(size, row.known) || !is_cost_listed(size.d, row.cost) {
+        return Ok(None);
+    }
+    if !is_apart(row.cost) || !is_beside(row.cost, row.known) {
+        return Ok(None);
+    }
+    Ok(Some(CaseAction {
+        pre: cases_of(alloc, size, size.atoms + 1, row.pre)?,
+        add: cases_of(alloc, size, size.atoms, row.add)?,
+        del: cases_of(alloc, size, size.atoms + 1, row.del)?,
+        cost: row.cost,
+        known: row.known,
+    }))
+}
+
+fn actions_of(alloc: Global, size: Size, rows: &[Row<'_>]) -> Result<List<CaseAction>, NoMemory>
+    requires { size.atoms ≤ 4096 }
+    ensures each { IfOk result (All (IsSidedAction size.split size.d size.atoms)) }
+    ensures count { IfOk result (λ actions. length actions ≤ length rows.now) }
+{
+    let mut actions = List::empty(alloc);
+    for row in rows {
+        if let Some(action) = action_of(alloc, size, row)? {
+            actions.push(action)?;
+        }
+    }
+    Ok(actions)
+}
+
+/// The table of the given cases and rows, but for those that no table has.
+pub fn table_of(
+    alloc: Global,
+    size: Size,
+    start: &[Case],
+    goal: &[Case],
+    rows: &[Row<'_>],
+) -> Result<CaseTable, NoMemory>
+    requires split { size.split ≤ size.d }
+    requires differences { size.d ≤ 256 }
+    requires atoms { size.atoms ≤ 4096 }
+    requires rows { length rows.now ≤ 50000 }
+    ensures { IfOk result (λ table. table.d ≡ size.d) }
+{
+    Ok(CaseTable {
+        d: size.d,
+        atoms: size.atoms,
+        start: cases_of(alloc, size, size.atoms, start)?,
+        goal: cases_of(alloc, size, size.atoms + 1, goal)?,
+        actions: actions_of(alloc, size, rows)?,
+    })
+}
