@@ -27,7 +27,7 @@ use Rattle.case_kit.specs.Laws.{IsValidWithin, ListLaw}
 use Rattle.case_kit.proofs.BestLemmas.{Bounds, bounds-itself, bounds-trans, best_first, best_second, best_picks}
 use Rattle.case_kit.proofs.CaseLists.{in_where, where_has}
 use Rattle.case_kit.proofs.MemberLemmas.{must_holds, holds_may}
-use Rattle.case_kit.proofs.PriceLemmas.{decided, low_within, high_within}
+use Rattle.case_kit.proofs.PriceLemmas.{decided, known_bound}
 use Rattle.case_kit.proofs.RelaxedLemmas.{action_there, action_nowhere}
 
 -- every number of the first set is in the second
@@ -47,7 +47,7 @@ pub record IsEasier (t u : TaskMeaning) : Type 0 where
   pub each : (i : ℕ) → IsEasierAction (action_at t i) (action_at u i)
 
 -- ---- lists
-cheaper : (x y : Option ℕ) → IsNoDearer x y → is_some y ≡ true → (is_some x ≡ true) × (unwrap_or x 0 ≤ unwrap_or y 0)
+pub cheaper : (x y : Option ℕ) → IsNoDearer x y → is_some y ≡ true → (is_some x ≡ true) × (unwrap_or x 0 ≤ unwrap_or y 0)
 cheaper x None less there = absurd (false≢true there)
 cheaper None (Some n) less there = absurd less
 cheaper (Some m) (Some n) less there = (refl, less)
@@ -195,12 +195,12 @@ module _ (table : CaseTable) (cube : CubeMeaning) (told : Told) (is : is_member 
   pub member_permissive : IsEasier (member table told) (permissive table cube)
   member_permissive =
       easier_where (holds told) (holds told) (known_cost_after told) (may_hold cube) (must_hold cube) (known_cost_by Permissive cube) table (λ when on. holds_may cube told when is on) (λ when must. must_holds cube told when is must)
-      (λ a. low_within cube told a is)
+      (λ a. known_bound Permissive cube told a is)
 
   pub member_restrictive : IsEasier (restrictive table cube) (member table told)
   member_restrictive =
       easier_where (must_hold cube) (may_hold cube) (known_cost_by Restrictive cube) (holds told) (holds told) (known_cost_after told) table (λ when must. must_holds cube told when is must) (λ when on. holds_may cube told when is on)
-      (λ a. high_within cube told a is)
+      (λ a. known_bound Restrictive cube told a is)
 
 pub list_law : ListLaw
 list_law =

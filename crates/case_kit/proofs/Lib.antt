@@ -1,6 +1,8 @@
 pub mod BestLemmas
 pub mod CaseLists
+pub mod ChildLemmas
 pub mod EasierLemmas
+pub mod EverLemmas
 pub mod MadeLemmas
 pub mod MemberLemmas
 pub mod PriceLemmas

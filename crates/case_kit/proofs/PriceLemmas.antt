@@ -84,7 +84,7 @@ cost_bound way cube s (costs.Two place told left) member =
     by true = value_bound way cube s told member
     by false = value_bound way cube s left member
 
-or_false : (a b : Bool) → (a || b) ≡ false → (a ≡ false) × (b ≡ false)
+pub or_false : (a b : Bool) → (a || b) ≡ false → (a ≡ false) × (b ≡ false)
 or_false true b e = absurd (false≢true (sym e))
 or_false false b e = (refl, e)
 
@@ -130,7 +130,7 @@ counts_somewhere Permissive cube from when false member e = (from, member, false
 counts_somewhere Restrictive cube from when true member e = (from, member, must_holds cube from when member e)
 counts_somewhere Restrictive cube from when false member e = must_not_somewhere cube from when member e
 
-known_bound : (way : Way) (cube : CubeMeaning) (s : Told) (action : CaseAction) → is_member cube s ≡ true → Bounds way (known_cost_by way cube action) (known_cost_after s action)
+pub known_bound : (way : Way) (cube : CubeMeaning) (s : Told) (action : CaseAction) → is_member cube s ≡ true → Bounds way (known_cost_by way cube action) (known_cost_after s action)
 known_bound Permissive cube s action member = by (holds s action.known) refl where
   by : (b : Bool) → holds s action.known ≡ b → Bounds Permissive (known_cost_by Permissive cube action) (cond b (cost_after s action.cost) None)
   by false off = tt
@@ -142,7 +142,7 @@ known_bound Restrictive cube s action member = by (must_hold cube action.known) 
   by true on =
       subst (λ b. Bounds Restrictive (cost_by Restrictive cube action.cost) (cond b (cost_after s action.cost) None)) (sym (must_holds cube s action.known member on)) (cost_bound Restrictive cube s action.cost member)
 
-known_some : (way : Way) (cube : CubeMeaning) (from : Told) (action : CaseAction) → is_apart action.cost ≡ true → is_beside action.cost action.known ≡ true → is_member cube from ≡ true
+pub known_some : (way : Way) (cube : CubeMeaning) (from : Told) (action : CaseAction) → is_apart action.cost ≡ true → is_beside action.cost action.known ≡ true → is_member cube from ≡ true
     → SomeMember cube (λ s. known_cost_after s action ≡ known_cost_by way cube action)
 known_some way cube from action apart beside member = by (counts way cube action.known) refl where
   by : (b : Bool) → counts way cube action.known ≡ b → SomeMember cube (λ s. known_cost_after s action ≡ known_cost_by way cube action)
@@ -167,10 +167,3 @@ pub greatest_cost : (cube : CubeMeaning) (action : CaseAction) → is_member cub
     → IsGreatestCost cube (λ s. known_cost_after s action) (known_cost_by Restrictive cube action)
 greatest_cost cube action live apart beside =
     record { some = known_some Restrictive cube cube.told action apart beside live; greatest = λ s member. known_bound Restrictive cube s action member }
-
--- the bounds for the laws of lists
-pub low_within : (cube : CubeMeaning) (s : Told) (action : CaseAction) → is_member cube s ≡ true → Bounds Permissive (known_cost_by Permissive cube action) (known_cost_after s action)
-low_within cube s action member = known_bound Permissive cube s action member
-
-pub high_within : (cube : CubeMeaning) (s : Told) (action : CaseAction) → is_member cube s ≡ true → Bounds Restrictive (known_cost_by Restrictive cube action) (known_cost_after s action)
-high_within cube s action member = known_bound Restrictive cube s action member

@@ -39,42 +39,55 @@ map_agree P f g (x ∷ xs) each same =
     let rest : map f xs ≡ map g xs = map_agree P f g xs (rest_of_all P x xs each) same in
     λ i. here i ∷ rest i
 
-module _ (d : ℕ) where
-  -- the tests agree on each condition whose number is one of 1 to d
-  abbrev pub DoAgree : (When → Bool) → (When → Bool) → Type 0
-  DoAgree one two = (when : When) → is_listed_in d when ≡ true → one when ≡ two when
+-- tests that agree on what holds of each case take the same atoms
+where_agree : (P : When → Type 0) (one two : When → Bool) (cases : List Case) → All (λ case. P case.when) cases → ((when : When) → P when → one when ≡ two when) → atoms_where one cases ≡ atoms_where two cases
+where_agree P one two [] each agree = refl
+where_agree P one two (case ∷ cases) each agree =
+    ap (λ b. map (λ (c : Case). c.atom) (cond b (case ∷ filter (λ c. one c.when) cases) (filter (λ c. one c.when) cases))) (agree case.when (first_of_all (λ c. P c.when) case cases each))
+    ∙ by (two case.when) (where_agree P one two cases (rest_of_all (λ c. P c.when) case cases each) agree)
+  where
+    by : (b : Bool) → atoms_where one cases ≡ atoms_where two cases
+        → map (λ (c : Case). c.atom) (cond b (case ∷ filter (λ c. one c.when) cases) (filter (λ c. one c.when) cases)) ≡ map (λ (c : Case). c.atom) (cond b (case ∷ filter (λ c. two c.when) cases) (filter (λ c. two c.when) cases))
+    by true rest = ap (λ xs. case.atom ∷ xs) rest
+    by false rest = rest
 
-  where_agree : (one two : When → Bool) (bound : ℕ) (cases : List Case) → All (IsCase d bound) cases → DoAgree one two → atoms_where one cases ≡ atoms_where two cases
-  where_agree one two bound [] each agree = refl
-  where_agree one two bound (case ∷ cases) each agree =
-      ap (λ b. map (λ (c : Case). c.atom) (cond b (case ∷ filter (λ c. one c.when) cases) (filter (λ c. one c.when) cases))) (agree case.when (first_of_all (IsCase d bound) case cases each).listed)
-      ∙ by (two case.when) (where_agree one two bound cases (rest_of_all (IsCase d bound) case cases each) agree)
-    where
-      by : (b : Bool) → atoms_where one cases ≡ atoms_where two cases
-          → map (λ (c : Case). c.atom) (cond b (case ∷ filter (λ c. one c.when) cases) (filter (λ c. one c.when) cases)) ≡ map (λ (c : Case). c.atom) (cond b (case ∷ filter (λ c. two c.when) cases) (filter (λ c. two c.when) cases))
-      by true rest = ap (λ xs. case.atom ∷ xs) rest
-      by false rest = rest
+-- what holds of each condition of an action
+pub record IsOfAction (P : When → Type 0) (a : CaseAction) : Type 0 where
+  pub pre : All (λ case. P case.when) a.pre
+  pub add : All (λ case. P case.when) a.add
+  pub del : All (λ case. P case.when) a.del
 
-  set_agree : (one two : When → Bool) (bound : ℕ) (cases : List Case) → All (IsCase d bound) cases → DoAgree one two → set_of (atoms_where one cases) ≡ set_of (atoms_where two cases)
-  set_agree one two bound cases each agree = ap set_of (where_agree one two bound cases each agree)
+pub action_agree : (P : When → Type 0) (helps hinders : When → Bool) (cost : CaseAction → Option ℕ) (helps' hinders' : When → Bool) (cost' : CaseAction → Option ℕ) (a : CaseAction) → IsOfAction P a
+    → ((when : When) → P when → helps when ≡ helps' when) → ((when : When) → P when → hinders when ≡ hinders' when) → cost a ≡ cost' a → action_where helps hinders cost a ≡ action_where helps' hinders' cost' a
+action_agree P helps hinders cost helps' hinders' cost' a of more less same =
+    let pre : set_of (atoms_where hinders a.pre) ≡ set_of (atoms_where hinders' a.pre) = ap set_of (where_agree P hinders hinders' a.pre of.pre less) in
+    let add : set_of (atoms_where helps a.add) ≡ set_of (atoms_where helps' a.add) = ap set_of (where_agree P helps helps' a.add of.add more) in
+    let del : set_of (atoms_where hinders a.del) ≡ set_of (atoms_where hinders' a.del) = ap set_of (where_agree P hinders hinders' a.del of.del less) in
+    λ i. record { pre = pre i; add = add i; del = del i; cost = same i }
 
-module _ (helps hinders : When → Bool) (cost : CaseAction → Option ℕ) (helps' hinders' : When → Bool) (cost' : CaseAction → Option ℕ) where
-  action_agree : (d atoms : ℕ) (a : CaseAction) → IsCaseAction d atoms a → DoAgree d helps helps' → DoAgree d hinders hinders' → cost a ≡ cost' a → action_where helps hinders cost a ≡ action_where helps' hinders' cost' a
-  action_agree d atoms a sound more less same =
-      let pre : set_of (atoms_where hinders a.pre) ≡ set_of (atoms_where hinders' a.pre) = set_agree d hinders hinders' (atoms + 1) a.pre sound.pre less in
-      let add : set_of (atoms_where helps a.add) ≡ set_of (atoms_where helps' a.add) = set_agree d helps helps' atoms a.add sound.add more in
-      let del : set_of (atoms_where hinders a.del) ≡ set_of (atoms_where hinders' a.del) = set_agree d hinders hinders' (atoms + 1) a.del sound.del less in
-      λ i. record { pre = pre i; add = add i; del = del i; cost = same i }
+-- the condition's number is one of 1 to d
+abbrev IsListed : ℕ → When → Type 0
+IsListed d when = is_listed_in d when ≡ true
 
-  task_agree : (table : CaseTable) → DoAgree table.d helps helps' → DoAgree table.d hinders hinders' → ((a : CaseAction) → IsCaseAction table.d table.atoms a → cost a ≡ cost' a)
-      → task_where helps hinders cost table ≡ task_where helps' hinders' cost' table
-  task_agree table more less same =
-      let start : set_of (atoms_where helps table.start) ≡ set_of (atoms_where helps' table.start) = set_agree table.d helps helps' table.atoms table.start table.sound.starts more in
-      let goal : set_of (atoms_where hinders table.goal) ≡ set_of (atoms_where hinders' table.goal) = set_agree table.d hinders hinders' (table.atoms + 1) table.goal table.sound.goals less in
-      let actions : map (action_where helps hinders cost) table.actions ≡ map (action_where helps' hinders' cost') table.actions =
-      map_agree (IsCaseAction table.d table.atoms) (action_where helps hinders cost) (action_where helps' hinders' cost') table.actions table.sound.each
-      (λ a sound. action_agree table.d table.atoms a sound more less (same a sound)) in
-      λ i. record { atoms = table.atoms; start = start i; goal = goal i; actions = actions i }
+listed_cases : (d bound : ℕ) (cases : List Case) → All (IsCase d bound) cases → All (λ case. IsListed d case.when) cases
+listed_cases d bound cases each k c lt = (each k c lt).listed
+
+listed_action : (d atoms : ℕ) (a : CaseAction) → IsCaseAction d atoms a → IsOfAction (IsListed d) a
+listed_action d atoms a sound = record { pre = listed_cases d (atoms + 1) a.pre sound.pre; add = listed_cases d atoms a.add sound.add; del = listed_cases d (atoms + 1) a.del sound.del }
+
+-- the tests agree on each such condition
+abbrev DoAgree : ℕ → (When → Bool) → (When → Bool) → Type 0
+DoAgree d one two = (when : When) → IsListed d when → one when ≡ two when
+
+task_agree : (helps hinders : When → Bool) (cost : CaseAction → Option ℕ) (helps' hinders' : When → Bool) (cost' : CaseAction → Option ℕ) (table : CaseTable) → DoAgree table.d helps helps' → DoAgree table.d hinders hinders'
+    → ((a : CaseAction) → IsCaseAction table.d table.atoms a → cost a ≡ cost' a) → task_where helps hinders cost table ≡ task_where helps' hinders' cost' table
+task_agree helps hinders cost helps' hinders' cost' table more less same =
+    let start : set_of (atoms_where helps table.start) ≡ set_of (atoms_where helps' table.start) = ap set_of (where_agree (IsListed table.d) helps helps' table.start (listed_cases table.d table.atoms table.start table.sound.starts) more) in
+    let goal : set_of (atoms_where hinders table.goal) ≡ set_of (atoms_where hinders' table.goal) = ap set_of (where_agree (IsListed table.d) hinders hinders' table.goal (listed_cases table.d (table.atoms + 1) table.goal table.sound.goals) less) in
+    let actions : map (action_where helps hinders cost) table.actions ≡ map (action_where helps' hinders' cost') table.actions =
+    map_agree (IsCaseAction table.d table.atoms) (action_where helps hinders cost) (action_where helps' hinders' cost') table.actions table.sound.each
+    (λ a sound. action_agree (IsListed table.d) helps hinders cost helps' hinders' cost' a (listed_action table.d table.atoms a sound) more less (same a sound)) in
+    λ i. record { atoms = table.atoms; start = start i; goal = goal i; actions = actions i }
 
 -- ---- cubes that have decided every difference
 -- of each difference the cube tells what the set has and leaves what it lacks

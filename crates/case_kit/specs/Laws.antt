@@ -1,12 +1,17 @@
 -- The laws of case tables.
-use Rattle.std.specs.Prelude.{ℕ, ◌≡◌, ◌≤◌, ◌↔◌, true, List}
+use Rattle.std.specs.Prelude.{ℕ, ◌≡◌, ◌≤◌, ◌↔◌, true, false, List, Some, slice_get}
 use Rattle.std.specs.FinSet as set
+use Rattle.mre_base.specs.declared.kind.Side.{Side}
+use Rattle.cube_kit.specs.Child.{child}
 use Rattle.cube_kit.specs.Cubes.{Told, CubeMeaning, IsCube, is_listed, is_member, is_inside, single}
-use Rattle.task_kit.specs.Tasks.{TaskMeaning, IsValid, cost_of}
+use Rattle.task_kit.specs.Tasks.{TaskMeaning, action_at, IsValid, cost_of}
+use Rattle.case_kit.specs.declared.way.Way.{Way}
+use Rattle.case_kit.specs.declared.action.CaseAction.{CaseAction}
 use Rattle.case_kit.specs.declared.table.CaseTable.{CaseTable}
+use Rattle.case_kit.specs.Sound.{touches}
 use Rattle.case_kit.specs.Members.{member}
 use Rattle.case_kit.specs.Relaxed.{IsPermissive, IsRestrictive}
-use Rattle.case_kit.specs.Evaluated.{permissive, restrictive}
+use Rattle.case_kit.specs.Evaluated.{permissive, restrictive, relaxed}
 
 -- the permissive and the restrictive task of a cube that has a member are the ones that are made case by case, and no others
 pub record RelaxedLaw : Type 0 where
@@ -39,3 +44,9 @@ pub record ListLaw : Type 0 where
       IsValid (permissive table inner) list → IsValidWithin (permissive table outer) list (cost_of (permissive table inner) list)
   pub to_inner : (table : CaseTable) (inner outer : CubeMeaning) (list : List ℕ) → is_member inner inner.told ≡ true → is_inside inner outer ≡ true →
       IsValid (restrictive table outer) list → IsValidWithin (restrictive table inner) list (cost_of (restrictive table outer) list)
+
+-- once one more difference is decided, an action in which it has no part is in both tasks what it was
+abbrev pub ChildLaw : Type 0
+ChildLaw =
+    (way : Way) (table : CaseTable) (cube : CubeMeaning) (place : ℕ) (side : Side) (i : ℕ) (action : CaseAction) → slice_get table.actions i ≡ Some action → touches action place ≡ false →
+    action_at (relaxed way table (child cube place side)) i ≡ action_at (relaxed way table cube) i

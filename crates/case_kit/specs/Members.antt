@@ -28,8 +28,11 @@ abbrev pub cost_after : Told → CaseCost → Option ℕ
 cost_after told (costs.One value) = value_after told value
 cost_after told (costs.Two place with without) = if set.contains told place then value_after told with else value_after told without
 
+abbrev pub cost_if_known : Told → When → CaseCost → Option ℕ
+cost_if_known told known cost = if holds told known then cost_after told cost else None
+
 abbrev pub known_cost_after : Told → CaseAction → Option ℕ
-known_cost_after told action = if holds told action.known then cost_after told action.cost else None
+known_cost_after told action = cost_if_known told action.known action.cost
 
 -- the atoms of the cases that hold
 abbrev pub atoms_after : Told → List Case → Numbers

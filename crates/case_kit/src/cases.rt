@@ -1,3 +1,6 @@
+ghost use Rattle.std.specs.Prelude.{◌≡◌};
+ghost use Rattle.case_kit.specs.Sound.{is_on};
+
 /// When a case is on. The differences count from 1.
 #[derive(Clone, Copy, Debug)]
 pub enum When {
@@ -14,4 +17,17 @@ pub enum When {
 pub struct Case {
     pub atom: u32,
     pub when: When,
+}
+
+impl When {
+    /// Whether the condition is on this difference.
+    pub fn is_on(self, place: u32) -> bool
+        ensures { result ≡ is_on self place }
+    {
+        match self {
+            When::Always => false,
+            When::IfTold(on) => on == place,
+            When::IfLeft(on) => on == place,
+        }
+    }
 }

@@ -1,3 +1,8 @@
+ghost use Rattle.std.specs.Prelude.{◌≡◌, ◌↔◌, IsTrue, IsSome};
+ghost use Rattle.cube_kit.specs.Cubes.{Told};
+ghost use Rattle.case_kit.specs.declared.cases.When.{When};
+ghost use Rattle.case_kit.specs.Sound.{has_value, has_cost, stands_in_value, stands_in_cost, is_apart, is_beside};
+
 /// A number that may be absent: the same in both models, or by a difference.
 #[derive(Clone, Copy, Debug)]
 pub enum CaseValue {
@@ -20,4 +25,59 @@ pub enum CaseCost {
         told: CaseValue,
         left: CaseValue,
     },
+}
+
+impl CaseValue {
+    fn has_number(self) -> bool
+        ensures { result ≡ has_value self }
+    {
+        match self {
+            CaseValue::One(value) => value.is_some(),
+            CaseValue::Two { told, left, .. } => told.is_some() || left.is_some(),
+        }
+    }
+
+    fn is_on(self, number: u32) -> bool
+        ensures { result ≡ stands_in_value self number }
+    {
+        match self {
+            CaseValue::One(_) => false,
+            CaseValue::Two { place, .. } => place == number,
+        }
+    }
+}
+
+impl CaseCost {
+    ghost use Rattle.case_kit.specs.Members.{cost_if_known};
+
+    /// Whether some number stands in the cost. Then, and only then, there is a set of differences after which an action has a cost, whatever
+    /// the condition under which it is known.
+    pub fn has_number(self) -> bool
+        requires { IsTrue (is_apart self) }
+        ensures { (known : When) → IsTrue (is_beside self known) →
+            IsTrue result ↔ ((told : Told) × IsSome (cost_if_known told known self)) }
+    {
+        self.is_somewhere()
+    }
+
+    fn is_somewhere(self) -> bool
+        ensures { result ≡ has_cost self }
+    {
+        match self {
+            CaseCost::One(value) => value.has_number(),
+            CaseCost::Two { told, left, .. } => told.has_number() || left.has_number(),
+        }
+    }
+
+    /// Whether the difference has a part in the cost.
+    pub fn is_on(self, number: u32) -> bool
+        ensures { result ≡ stands_in_cost self number }
+    {
+        match self {
+            CaseCost::One(value) => value.is_on(number),
+            CaseCost::Two { place, told, left } => {
+                place == number || told.is_on(number) || left.is_on(number)
+            }
+        }
+    }
 }

@@ -1,4 +1,4 @@
-ghost use Rattle.case_kit.specs.Laws.{ListLaw, MemberLaw, RelaxedLaw};
+ghost use Rattle.case_kit.specs.Laws.{ChildLaw, ListLaw, MemberLaw, RelaxedLaw};
 ghost use Rattle.case_kit.specs.Sums.{SumLaw};
 
 /// The two tasks of a cube, which are made case by case, are exactly those that its members determine.
@@ -21,4 +21,9 @@ pub fn law_lists()
 /// and so do its least and greatest costs over an inner cube.
 pub fn law_sums()
     ensures { SumLaw }
+{}
+
+/// Deciding one more difference leaves each action as it was in which that difference has no part.
+pub fn law_child()
+    ensures { ChildLaw }
 {}

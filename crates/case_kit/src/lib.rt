@@ -13,6 +13,6 @@ mod way;
 pub use action::CaseAction;
 pub use cases::{Case, When};
 pub use costs::{CaseCost, CaseValue};
-pub use laws::{law_lists, law_members, law_relaxed, law_sums};
+pub use laws::{law_child, law_lists, law_members, law_relaxed, law_sums};
 pub use table::CaseTable;
 pub use way::Way;

@@ -1,9 +1,11 @@
-ghost use Rattle.std.specs.Prelude.{◌≡◌, ◌≤◌, IfOk};
+ghost use Rattle.std.specs.Prelude.{◌≡◌, ◌≤◌, IsTrue, IfOk};
+ghost use Rattle.case_kit.specs.Sound.{is_apart};
 ghost use Rattle.cube_kit.specs.Cubes.{IsCube};
 
 use crate::making::{Row, Size, table_of};
 use case_kit::{
-    Case, CaseCost, CaseTable, CaseValue, When, law_lists, law_members, law_relaxed, law_sums,
+    Case, CaseCost, CaseTable, CaseValue, When, law_child, law_lists, law_members, law_relaxed,
+    law_sums,
 };
 use cube_kit::Cube;
 use mre_base::Side;
@@ -33,7 +35,9 @@ fn left(atom: u32, place: u32) -> Case {
     }
 }
 
-fn number(cost: u32) -> CaseCost {
+fn number(cost: u32) -> CaseCost
+    ensures { IsTrue (is_apart result) }
+{
     CaseCost::One(CaseValue::One(Some(cost)))
 }
 
@@ -322,8 +326,49 @@ fn what_is_decided_is_in_both_tasks(rt: HostRuntime) -> Result<(), Fail> {
     assert_tasks(&rt, rt.alloc(), &[2, 4], &[1, 3, 5], &member, &member)
 }
 
+// The differences that have a part in an action, up to the fifth.
+fn assert_touched(rt: &impl Abort, table: &CaseTable, action: usize, wanted: &[u32]) {
+    assert!(rt; action < table.actions.len());
+    for place in 1..6u32 {
+        let touches = table.actions.item(action).touches(place);
+        assert_eq!(rt; touches, wanted.contains(&place), "{place} in {action}");
+    }
+}
+
+#[test]
+fn an_action_is_touched_by_its_cases_its_knowledge_and_its_cost(
+    rt: HostRuntime,
+) -> Result<(), Fail> {
+    let n = n_table(rt.alloc())?;
+    assert_touched(&rt, &n, 0, &[1]);
+    assert_touched(&rt, &n, 1, &[1, 2]);
+    assert_touched(&rt, &n, 2, &[]);
+    assert_touched(&rt, &sided_table(rt.alloc())?, 0, &[1, 2, 3, 4, 5]);
+    Ok(())
+}
+
+#[test]
+fn a_cost_may_have_a_number(rt: HostRuntime) {
+    let none = CaseValue::One(None);
+    let some = CaseValue::Two {
+        place: 1,
+        told: None,
+        left: Some(3),
+    };
+    assert!(rt; number(3).has_number());
+    assert!(rt; !CaseCost::One(none).has_number());
+    assert!(rt; CaseCost::One(some).has_number());
+    let both = CaseCost::Two {
+        place: 2,
+        told: none,
+        left: some,
+    };
+    assert!(rt; both.has_number());
+}
+
 #[test]
 fn the_laws_are_there() {
+    law_child();
     law_relaxed();
     law_members();
     law_lists();
