@@ -21,7 +21,7 @@ use Rattle.case_kit.specs.declared.costs.CaseValue.TheVariants as values
 use Rattle.case_kit.specs.declared.costs.CaseCost.{CaseCost}
 use Rattle.case_kit.specs.declared.costs.CaseCost.TheVariants as costs
 use Rattle.case_kit.specs.declared.action.CaseAction.{CaseAction}
-use Rattle.case_kit.specs.Sound.{stands_in_value, stands_in_cost, is_on}
+use Rattle.case_kit.specs.Parts.{stands_in_value, stands_in_cost, speaks_of}
 use Rattle.case_kit.specs.Evaluated.{may_hold, must_hold, counts, opposite, value_by, cost_by, known_cost_by}
 use Rattle.case_kit.specs.Laws.{ChildLaw}
 use Rattle.case_kit.proofs.CaseLists.{take_next}
@@ -58,17 +58,17 @@ module _ (cube : CubeMeaning) (place : ℕ) where
   left_same sides.Left k apart = other cube.left k apart
 
   module _ (side : Side) where
-    may_same : (when : When) → is_on when place ≡ false → may_hold (child cube place side) when ≡ may_hold cube when
+    may_same : (when : When) → speaks_of when place ≡ false → may_hold (child cube place side) when ≡ may_hold cube when
     may_same Always off = refl
     may_same (IfTold k) off = ap not (left_same side k off)
     may_same (IfLeft k) off = ap not (told_same side k off)
 
-    must_same : (when : When) → is_on when place ≡ false → must_hold (child cube place side) when ≡ must_hold cube when
+    must_same : (when : When) → speaks_of when place ≡ false → must_hold (child cube place side) when ≡ must_hold cube when
     must_same Always off = refl
     must_same (IfTold k) off = told_same side k off
     must_same (IfLeft k) off = left_same side k off
 
-    counts_same : (way : Way) (when : When) → is_on when place ≡ false → counts way (child cube place side) when ≡ counts way cube when
+    counts_same : (way : Way) (when : When) → speaks_of when place ≡ false → counts way (child cube place side) when ≡ counts way cube when
     counts_same Permissive when off = may_same when off
     counts_same Restrictive when off = must_same when off
 
@@ -83,7 +83,7 @@ module _ (cube : CubeMeaning) (place : ℕ) where
         let both = or_false _ _ parts.1 in
         λ i. decided way (told_same side k parts.0 i) (left_same side k parts.0 i) (value_same way told both.0 i) (value_same way left both.1 i)
 
-    known_same : (way : Way) (a : CaseAction) → is_on a.known place ≡ false → stands_in_cost a.cost place ≡ false → known_cost_by way (child cube place side) a ≡ known_cost_by way cube a
+    known_same : (way : Way) (a : CaseAction) → speaks_of a.known place ≡ false → stands_in_cost a.cost place ≡ false → known_cost_by way (child cube place side) a ≡ known_cost_by way cube a
     known_same way a known off = λ i. cond (counts_same way a.known known i) (cost_same way a.cost off i) None
 
 pub child_law : ChildLaw
@@ -93,8 +93,8 @@ child_law way table cube place side i a at off =
     let del = or_false _ _ add.1 in
     let known = or_false _ _ del.1 in
     action_there (counts way (child cube place side)) (counts (opposite way) (child cube place side)) (known_cost_by way (child cube place side)) table i a at
-    ∙ action_agree (λ when. is_on when place ≡ false) (counts way (child cube place side)) (counts (opposite way) (child cube place side)) (known_cost_by way (child cube place side)) (counts way cube) (counts (opposite way) cube)
+    ∙ action_agree (λ when. speaks_of when place ≡ false) (counts way (child cube place side)) (counts (opposite way) (child cube place side)) (known_cost_by way (child cube place side)) (counts way cube) (counts (opposite way) cube)
     (known_cost_by way cube) a
-    (record { pre = none_passes (λ (c : Case). is_on c.when place) a.pre pre.0; add = none_passes (λ (c : Case). is_on c.when place) a.add add.0; del = none_passes (λ (c : Case). is_on c.when place) a.del del.0 })
+    (record { pre = none_passes (λ (c : Case). speaks_of c.when place) a.pre pre.0; add = none_passes (λ (c : Case). speaks_of c.when place) a.add add.0; del = none_passes (λ (c : Case). speaks_of c.when place) a.del del.0 })
     (counts_same cube place side way) (counts_same cube place side (opposite way)) (known_same cube place side way a known.0 known.1)
     ∙ sym (action_there (counts way cube) (counts (opposite way) cube) (known_cost_by way cube) table i a at)

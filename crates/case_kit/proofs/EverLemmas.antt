@@ -15,7 +15,8 @@ use Rattle.case_kit.specs.declared.costs.CaseValue.TheVariants as values
 use Rattle.case_kit.specs.declared.costs.CaseCost.{CaseCost}
 use Rattle.case_kit.specs.declared.costs.CaseCost.TheVariants as costs
 use Rattle.case_kit.specs.declared.action.CaseAction.{CaseAction}
-use Rattle.case_kit.specs.Sound.{has_value, has_cost, is_apart, is_beside}
+use Rattle.case_kit.specs.Parts.{has_value, has_cost}
+use Rattle.case_kit.specs.Sound.{is_apart, is_beside}
 use Rattle.case_kit.specs.Members.{cost_if_known}
 use Rattle.case_kit.specs.Evaluated.{may_hold, least_of, value_by, cost_by, known_cost_by}
 use Rattle.case_kit.proofs.PriceLemmas.{known_bound, known_some}

@@ -13,7 +13,8 @@ use Rattle.case_kit.specs.declared.costs.CaseValue.TheVariants as values
 use Rattle.case_kit.specs.declared.costs.CaseCost.{CaseCost}
 use Rattle.case_kit.specs.declared.costs.CaseCost.TheVariants as costs
 use Rattle.case_kit.specs.declared.action.CaseAction.{CaseAction}
-use Rattle.case_kit.specs.Sound.{stands_in_value, stands_in_cost, is_apart, is_beside}
+use Rattle.case_kit.specs.Parts.{stands_in_value, stands_in_cost}
+use Rattle.case_kit.specs.Sound.{is_apart, is_beside}
 use Rattle.case_kit.specs.Members.{holds, value_after, cost_after, known_cost_after}
 use Rattle.case_kit.specs.Relaxed.{SomeMember, IsLeastCost, IsGreatestCost}
 use Rattle.case_kit.specs.Evaluated.{must_hold, counts, best_of, value_by, cost_by, known_cost_by}

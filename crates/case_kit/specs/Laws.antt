@@ -8,7 +8,7 @@ use Rattle.task_kit.specs.Tasks.{TaskMeaning, action_at, IsValid, cost_of}
 use Rattle.case_kit.specs.declared.way.Way.{Way}
 use Rattle.case_kit.specs.declared.action.CaseAction.{CaseAction}
 use Rattle.case_kit.specs.declared.table.CaseTable.{CaseTable}
-use Rattle.case_kit.specs.Sound.{touches}
+use Rattle.case_kit.specs.Parts.{touches}
 use Rattle.case_kit.specs.Members.{member}
 use Rattle.case_kit.specs.Relaxed.{IsPermissive, IsRestrictive}
 use Rattle.case_kit.specs.Evaluated.{permissive, restrictive, relaxed}

@@ -1,6 +1,5 @@
 -- What a case table may hold. Differences count from 1 to d and atoms from 0, and the number of atoms stands for what can never be true.
-use Rattle.std.specs.Prelude.{ℕ, ◌+◌, ◌≡◌, ◌≤◌, ◌<◌, ◌==◌, Bool, true, false, ◌&&◌, ◌||◌, not, is_some, List, length, All, Contains, ◌⊎◌}
-use Rattle.std.specs.List.{list_any}
+use Rattle.std.specs.Prelude.{ℕ, ◌+◌, ◌≡◌, ◌≤◌, ◌<◌, Bool, true, ◌&&◌, not, List, length, All, Contains, ◌⊎◌}
 use Rattle.cube_kit.specs.Cubes.{is_listed}
 use Rattle.case_kit.specs.declared.cases.When.{When}
 use Rattle.case_kit.specs.declared.cases.When.TheVariants.{Always, IfTold, IfLeft}
@@ -10,6 +9,7 @@ use Rattle.case_kit.specs.declared.costs.CaseValue.TheVariants as values
 use Rattle.case_kit.specs.declared.costs.CaseCost.{CaseCost}
 use Rattle.case_kit.specs.declared.costs.CaseCost.TheVariants as costs
 use Rattle.case_kit.specs.declared.action.CaseAction.{CaseAction}
+use Rattle.case_kit.specs.Parts.{stands_in_value, stands_in_cost}
 
 -- the difference of a condition, of a value, of a cost, where there is one, is one of 1 to d
 abbrev pub is_listed_in : ℕ → When → Bool
@@ -24,35 +24,6 @@ is_value_listed d (values.Two place told left) = is_listed d place
 abbrev pub is_cost_listed : ℕ → CaseCost → Bool
 is_cost_listed d (costs.One value) = is_value_listed d value
 is_cost_listed d (costs.Two place told left) = is_listed d place && (is_value_listed d told && is_value_listed d left)
-
--- the difference stands in the value, in the cost
-abbrev pub stands_in_value : CaseValue → ℕ → Bool
-stands_in_value (values.One value) k = false
-stands_in_value (values.Two place told left) k = place == k
-
-abbrev pub stands_in_cost : CaseCost → ℕ → Bool
-stands_in_cost (costs.One value) k = stands_in_value value k
-stands_in_cost (costs.Two place told left) k = place == k || (stands_in_value told k || stands_in_value left k)
-
--- some number stands in the value, in the cost
-abbrev pub has_value : CaseValue → Bool
-has_value (values.One value) = is_some value
-has_value (values.Two place told left) = is_some told || is_some left
-
-abbrev pub has_cost : CaseCost → Bool
-has_cost (costs.One value) = has_value value
-has_cost (costs.Two place told left) = has_value told || has_value left
-
--- the condition is on the difference
-abbrev pub is_on : When → ℕ → Bool
-is_on Always k = false
-is_on (IfTold place) k = place == k
-is_on (IfLeft place) k = place == k
-
--- the difference has a part in the action: a case, its knowledge, or its cost
-abbrev pub touches : CaseAction → ℕ → Bool
-touches action k =
-    list_any (λ case. is_on case.when k) action.pre || (list_any (λ case. is_on case.when k) action.add || (list_any (λ case. is_on case.when k) action.del || (is_on action.known k || stands_in_cost action.cost k)))
 
 -- the place of a cost isn't the place of one of its values
 abbrev pub is_apart : CaseCost → Bool

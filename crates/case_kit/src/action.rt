@@ -1,6 +1,5 @@
 ghost use Rattle.std.specs.Prelude.{◌≡◌};
-ghost use Rattle.std.specs.List.{list_any};
-ghost use Rattle.case_kit.specs.Sound.{is_on, touches};
+ghost use Rattle.case_kit.specs.Parts.{stands_among, touches};
 
 use crate::cases::{Case, When};
 use crate::costs::CaseCost;
@@ -17,11 +16,11 @@ pub struct CaseAction {
     pub known: When,
 }
 
-fn is_any_on(cases: &List<Case>, number: u32) -> bool
-    ensures { result ≡ list_any (λ case. is_on case.when number) cases.now }
+fn any_speaks_of(cases: &List<Case>, number: u32) -> bool
+    ensures { result ≡ stands_among cases.now number }
 {
     for place in 0..cases.len() {
-        if cases.item(place).when.is_on(number) {
+        if cases.item(place).when.speaks_of(number) {
             return true;
         }
     }
@@ -33,10 +32,10 @@ impl CaseAction {
     pub fn touches(&self, number: u32) -> bool
         ensures { result ≡ touches self.now number }
     {
-        is_any_on(&self.pre, number)
-            || is_any_on(&self.add, number)
-            || is_any_on(&self.del, number)
-            || self.known.is_on(number)
-            || self.cost.is_on(number)
+        any_speaks_of(&self.pre, number)
+            || any_speaks_of(&self.add, number)
+            || any_speaks_of(&self.del, number)
+            || self.known.speaks_of(number)
+            || self.cost.speaks_of(number)
     }
 }

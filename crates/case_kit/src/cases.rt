@@ -1,5 +1,5 @@
 ghost use Rattle.std.specs.Prelude.{◌≡◌};
-ghost use Rattle.case_kit.specs.Sound.{is_on};
+ghost use Rattle.case_kit.specs.Parts.{speaks_of};
 
 /// When a case is on. The differences count from 1.
 #[derive(Clone, Copy, Debug)]
@@ -21,8 +21,8 @@ pub struct Case {
 
 impl When {
     /// Whether the condition is on this difference.
-    pub fn is_on(self, place: u32) -> bool
-        ensures { result ≡ is_on self place }
+    pub fn speaks_of(self, place: u32) -> bool
+        ensures { result ≡ speaks_of self place }
     {
         match self {
             When::Always => false,

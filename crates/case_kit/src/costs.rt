@@ -1,7 +1,8 @@
 ghost use Rattle.std.specs.Prelude.{◌≡◌, ◌↔◌, IsTrue, IsSome};
 ghost use Rattle.cube_kit.specs.Cubes.{Told};
 ghost use Rattle.case_kit.specs.declared.cases.When.{When};
-ghost use Rattle.case_kit.specs.Sound.{has_value, has_cost, stands_in_value, stands_in_cost, is_apart, is_beside};
+ghost use Rattle.case_kit.specs.Parts.{has_value, has_cost, stands_in_value, stands_in_cost};
+ghost use Rattle.case_kit.specs.Sound.{is_apart, is_beside};
 
 /// A number that may be absent: the same in both models, or by a difference.
 #[derive(Clone, Copy, Debug)]
@@ -37,7 +38,7 @@ impl CaseValue {
         }
     }
 
-    fn is_on(self, number: u32) -> bool
+    fn speaks_of(self, number: u32) -> bool
         ensures { result ≡ stands_in_value self number }
     {
         match self {
@@ -70,13 +71,13 @@ impl CaseCost {
     }
 
     /// Whether the difference has a part in the cost.
-    pub fn is_on(self, number: u32) -> bool
+    pub fn speaks_of(self, number: u32) -> bool
         ensures { result ≡ stands_in_cost self number }
     {
         match self {
-            CaseCost::One(value) => value.is_on(number),
+            CaseCost::One(value) => value.speaks_of(number),
             CaseCost::Two { place, told, left } => {
-                place == number || told.is_on(number) || left.is_on(number)
+                place == number || told.speaks_of(number) || left.speaks_of(number)
             }
         }
     }

@@ -1,6 +1,7 @@
 //! Small case tables for tests, from rows.
 ghost use Rattle.std.specs.Prelude.{◌≡◌, ◌+◌, ◌≤◌, All, length, IfOk, IfSome};
-ghost use Rattle.case_kit.specs.Sound.{is_value_listed, is_cost_listed, stands_in_value, stands_in_cost, is_apart, is_beside};
+ghost use Rattle.case_kit.specs.Parts.{stands_in_value, stands_in_cost};
+ghost use Rattle.case_kit.specs.Sound.{is_value_listed, is_cost_listed, is_apart, is_beside};
 ghost use Rattle.case_tests.specs.Sided.{is_sided, IsSided, IsSidedAction};
 
 use case_kit::{Case, CaseAction, CaseCost, CaseTable, CaseValue, When};
