@@ -69,5 +69,5 @@ pub record IsCaseTable (d atoms : ℕ) (start goal : List Case) (actions : List 
   pub starts : All (IsCase d atoms) start
   pub goals : All (IsCase d (atoms + 1)) goal
   pub each : All (IsCaseAction d atoms) actions
-  -- what the planner's model alone has by a difference, no place of the user's model alone has by the same one
+  -- no difference stands both in a condition on what is told and in one on what is left
   pub one_way : (place : ℕ) → Stands start goal actions (IfTold place) → Stands start goal actions (IfLeft place) → ⊥
