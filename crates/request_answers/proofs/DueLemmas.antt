@@ -1,0 +1,215 @@
+-- What is made of a question is the answer to the request about the contents; and a stop on the way has its cause in them.
+use Rattle.std.proofs.Common.{◌≡◌, ℕ, ◌<◌, ◌≤◌, true, List, [], length, Option, None, Some, refl, sym, subst, inl, inr, arith}
+use Rattle.std.specs.Prelude.{IfNone, IfSome, IsTrue}
+use Rattle.std.specs.Ordering.{nat_cmp}
+use Rattle.std.specs.FinSet as set
+use Rattle.std.proofs.lemmas.Bool.{true≢false}
+use Rattle.pddl_text.specs.declared.fault.TextFault.{TextFault}
+use Rattle.feature_diff.specs.declared.difference.Difference.{Difference}
+use Rattle.mre_words.specs.declared.request.Request.{Request}
+use Rattle.mre_words.specs.declared.request.Request.TheVariants.{Explain, Diff, Patch, PlanPatch}
+use Rattle.mre_words.specs.Requests.{count_of}
+use Rattle.request_answers.specs.declared.question.Question.{Question}
+use Rattle.request_answers.specs.declared.stop.AnswerStop.{AnswerStop}
+use Rattle.request_answers.specs.declared.stop.AnswerStop.TheVariants.{Misread, Disagree, TooManyParameters, TooManyObjects, TooManyDifferences, TooManySteps, NotValid, Unbuilt, NotCheapest, NoMemory}
+use Rattle.request_answers.specs.Lines.{IsOfFile}
+use Rattle.request_answers.specs.Counts.{AreWithinLimits}
+use Rattle.request_answers.specs.Texts.{IsMisread, IsMisreadModel, planner_domain, planner_problem, user_domain, user_problem, of_model, of_plan, has_plan}
+use Rattle.request_answers.specs.Questions.{AreCounted, AreServed, AreServedWords, AreUnservedWords, IsUnserved, of_words, of_differences}
+use Rattle.request_answers.specs.Questions as unserved
+use Rattle.request_answers.specs.Posing.{IsQuestion}
+use Rattle.request_answers.specs.Steps.{IsOfQuestion, IsOfCounts, IsServedBy, IsUnservedBy, IsOfExplaining}
+use Rattle.request_answers.specs.Making.{task_in, IsMadeOf, IsOfMaking, IsOfAnswering, counted, made}
+use Rattle.request_answers.specs.Outputs.{IsAnswer}
+use Rattle.request_answers.specs.Causes.{IsDue, IsToExplain}
+
+where_none : (o : Option ℕ) (P : Type 0) → o ≡ None → IfNone o P → P
+where_none o P e p = subst (λ v. IfNone v P) e p
+
+where_some : (o : Option ℕ) (P : ℕ → Type 0) (n : ℕ) → o ≡ Some n → IfSome o P → P n
+where_some o P n e p = subst (λ v. IfSome v P) e p
+
+module _ (request : Request) (contents : List (List ℕ)) (question : Question) (is : IsQuestion request contents question) where
+  abbrev counted_of : (differences : List Difference) → AreWithinLimits question.pair.planner question.pair.user question.plan.steps differences
+      → AreCounted request contents question.pair.planner question.pair.user question.plan.steps differences
+  counted_of differences limits = record { pose = is.pose; limits = limits }
+
+  served_of : (count : ℕ) → IsServedBy question.unserved count → AreServed is.pose.planner_read.words is.pose.user_read.words count
+  served_of count by =
+      record { words = where_none question.unserved (AreServedWords is.pose.planner_read.words is.pose.user_read.words) by.0 is.served; few = by.1 }
+
+  unserved_of : (count file : ℕ) → IsUnservedBy question.unserved count file → IsUnserved is.pose.planner_read.words is.pose.user_read.words count file
+  unserved_of count file (inl first) =
+      of_words (where_some question.unserved (AreUnservedWords is.pose.planner_read.words is.pose.user_read.words) file first is.unserved)
+  unserved_of count file (inr many) =
+      of_differences (where_none question.unserved (AreServedWords is.pose.planner_read.words is.pose.user_read.words) many.0 is.served) many.1 many.2
+
+  -- a count is past its limit
+  pub due_counts : (stop : AnswerStop) → IsOfCounts question.pair.planner question.pair.user question.plan.steps stop → IsDue request contents stop
+  due_counts (TooManyParameters found) of = record { planner = question.pair.planner; user = question.pair.user; plan = question.plan.steps; pose = is.pose; past = of }
+  due_counts (TooManyObjects found) of = record { planner = question.pair.planner; user = question.pair.user; plan = question.plan.steps; pose = is.pose; past = of }
+  due_counts (TooManyDifferences found) of = record { planner = question.pair.planner; user = question.pair.user; plan = question.plan.steps; pose = is.pose; past = of }
+  due_counts (TooManySteps found) of = record { planner = question.pair.planner; user = question.pair.user; plan = question.plan.steps; pose = is.pose; past = of }
+  due_counts NoMemory of = tt
+  due_counts _ of = absurd of
+
+-- the plan has a fault
+due_plan : (request : Request) (contents : List (List ℕ)) (question : Question) → IsQuestion request contents question → IsTrue (has_plan request) → (differences : List Difference)
+    → AreWithinLimits question.pair.planner question.pair.user question.plan.steps differences
+    → (stop : AnswerStop) → IsOfMaking (Patch []) question (length differences) stop → IsDue request contents stop
+due_plan request contents question is asked differences limits (NotValid fault) of = record {
+  planner = question.pair.planner;
+  user = question.pair.user;
+  plan = question.plan.steps;
+  differences = differences;
+  counted = counted_of request contents question is differences limits;
+  planned = asked;
+  is = of;
+}
+due_plan request contents question is asked differences limits NoMemory of = tt
+due_plan request contents question is asked differences limits _ of = absurd of
+
+due_explaining : (request : Request) (contents : List (List ℕ)) (question : Question) → IsQuestion request contents question → IsTrue (has_plan request) → IsToExplain request
+    → (differences : List Difference) → AreWithinLimits question.pair.planner question.pair.user question.plan.steps differences
+    → (stop : AnswerStop) → IsOfExplaining question.pair.planner question.plan.steps question.unserved (length differences) stop → IsDue request contents stop
+due_explaining request contents question is asked toward differences limits (NotValid fault) of = record {
+  planner = question.pair.planner;
+  user = question.pair.user;
+  plan = question.plan.steps;
+  differences = differences;
+  counted = counted_of request contents question is differences limits;
+  planned = asked;
+  is = of;
+}
+due_explaining request contents question is asked toward differences limits (Unbuilt file) of = record {
+  planner = question.pair.planner;
+  user = question.pair.user;
+  plan = question.plan.steps;
+  differences = differences;
+  counted = counted_of request contents question is differences limits;
+  asked = toward;
+  valid = of.0;
+  unserved = unserved_of request contents question is (length differences) file of.1;
+}
+due_explaining request contents question is asked toward differences limits (NotCheapest cost other steps) of = record {
+  planner = question.pair.planner;
+  user = question.pair.user;
+  plan = question.plan.steps;
+  differences = differences;
+  counted = counted_of request contents question is differences limits;
+  asked = toward;
+  served = served_of request contents question is (length differences) of.0;
+  undercut = of.1;
+}
+due_explaining request contents question is asked toward differences limits NoMemory of = tt
+due_explaining request contents question is asked toward differences limits _ of = absurd of
+
+due_making : (request : Request) (contents : List (List ℕ)) (question : Question) → IsQuestion request contents question → (differences : List Difference)
+    → AreWithinLimits question.pair.planner question.pair.user question.plan.steps differences
+    → (stop : AnswerStop) → IsOfMaking request question (length differences) stop → IsDue request contents stop
+due_making (Explain kind files) contents question is differences limits stop of = due_explaining (Explain kind files) contents question is refl tt differences limits stop of
+due_making (Diff files) contents question is differences limits NoMemory of = tt
+due_making (Diff files) contents question is differences limits _ of = absurd of
+due_making (Patch files) contents question is differences limits stop of = due_plan (Patch files) contents question is refl differences limits stop of
+due_making (PlanPatch files) contents question is differences limits stop of = due_plan (PlanPatch files) contents question is refl differences limits stop of
+
+pub due_answering : (request : Request) (contents : List (List ℕ)) (question : Question) → IsQuestion request contents question → (stop : AnswerStop)
+    → IsOfAnswering request question stop → IsDue request contents stop
+due_answering request contents question is stop (counted of) = due_counts request contents question is stop of
+due_answering request contents question is stop (made differences limits of) = due_making request contents question is differences limits stop of
+
+pub due_question : (request : Request) (contents : List (List ℕ)) (stop : AnswerStop) → IsOfQuestion request contents stop → IsDue request contents stop
+due_question request contents (Misread file fault) of = of
+due_question request contents (Disagree fault) of = of
+due_question request contents NoMemory of = tt
+due_question request contents _ of = absurd of
+
+-- what is made is the answer
+pub made_answer : (request : Request) (contents : List (List ℕ)) (question : Question) → IsQuestion request contents question → (told : set.FinSet nat_cmp) (text : List ℕ)
+    → IsMadeOf request question told text → IsAnswer request contents told text
+made_answer (Explain kind files) contents question is told text of =
+    let request : Request = Explain kind files in (
+      task_in question of.differences,
+      record {
+        planner = question.pair.planner;
+        user = question.pair.user;
+        plan = question.plan.steps;
+        differences = of.differences;
+        counted = counted_of request contents question is of.differences of.limits;
+        served = served_of request contents question is (length of.differences) of.made.served;
+        cheapest = of.made.cheapest;
+        task_is = refl;
+        first = of.made.first;
+      },
+      of.made.text_is,
+    )
+made_answer (Diff files) contents question is told text of = record {
+  planner = question.pair.planner;
+  user = question.pair.user;
+  plan = question.plan.steps;
+  differences = of.differences;
+  counted = counted_of (Diff files) contents question is of.differences of.limits;
+  choice = of.made.choice;
+  text_is = of.made.text_is;
+}
+made_answer (Patch files) contents question is told text of = record {
+  planner = question.pair.planner;
+  user = question.pair.user;
+  plan = question.plan.steps;
+  differences = of.differences;
+  counted = counted_of (Patch files) contents question is of.differences of.limits;
+  choice = of.made.choice;
+  text_is = of.made.text_is;
+}
+made_answer (PlanPatch files) contents question is told text of = record {
+  planner = question.pair.planner;
+  user = question.pair.user;
+  plan = question.plan.steps;
+  differences = of.differences;
+  counted = counted_of (PlanPatch files) contents question is of.differences of.limits;
+  choice = of.made.choice;
+  text_is = of.made.text_is;
+}
+
+-- ---- the file that a stop names is one of the request's
+
+four : (request : Request) → 4 ≤ count_of request
+four (Explain kind files) = omega arith
+four (Diff files) = omega arith
+four (Patch files) = omega arith
+four (PlanPatch files) = omega arith
+
+five : (request : Request) → has_plan request ≡ true → 4 < count_of request
+five (Explain kind files) has = omega arith
+five (Diff files) has = absurd (true≢false (sym has))
+five (Patch files) has = omega arith
+five (PlanPatch files) has = omega arith
+
+misread_model_file : (contents : List (List ℕ)) (fault : TextFault) (file : ℕ) → IsMisreadModel contents fault file → file < 4
+misread_model_file contents fault _ (planner_domain is) = omega arith
+misread_model_file contents fault _ (planner_problem domain pd is) = omega arith
+misread_model_file contents fault _ (user_domain domain planner pd pp is) = omega arith
+misread_model_file contents fault _ (user_problem domain other planner pd pp ud is) = omega arith
+
+misread_file : (request : Request) (contents : List (List ℕ)) (fault : TextFault) (file : ℕ) → IsMisread request contents fault file → file < count_of request
+misread_file request contents fault file (of_model is) = omega (arith, misread_model_file contents fault file is, four request)
+misread_file request contents fault file (of_plan planner user models is) = omega (arith, is.here, five request is.asked)
+
+five_explained : (request : Request) → IsToExplain request → count_of request ≡ 5
+five_explained (Explain kind files) is = refl
+five_explained (Diff files) is = absurd is
+five_explained (Patch files) is = absurd is
+five_explained (PlanPatch files) is = absurd is
+
+pub due_file : (request : Request) (contents : List (List ℕ)) (stop : AnswerStop) → IsDue request contents stop → IsOfFile (count_of request) stop
+due_file request contents (Misread file fault) due = misread_file request contents fault file due
+due_file request contents (Unbuilt file) due = omega (arith, unserved_file file due.unserved, five_explained request due.asked)
+  where
+    unserved_file : (place : ℕ) → IsUnserved due.counted.pose.planner_read.words due.counted.pose.user_read.words (length due.differences) place → place < 5
+    unserved_file place (of_words out) = words_file place out
+      where
+        words_file : (at : ℕ) → AreUnservedWords due.counted.pose.planner_read.words due.counted.pose.user_read.words at → at < 5
+        words_file _ (unserved.planner_domain out_) = omega arith
+        words_file _ (unserved.user_domain in_ out_) = omega arith
+    unserved_file place (of_differences words many here) = omega arith
+due_file request contents _ due = tt

@@ -1,0 +1,10 @@
+pub mod Causes
+pub mod Counts
+pub mod Ends
+pub mod Lines
+pub mod Making
+pub mod Outputs
+pub mod Posing
+pub mod Questions
+pub mod Steps
+pub mod Texts
