@@ -2,6 +2,4 @@
 #![tactic(auto)]
 
 #[cfg(test)]
-mod first_texts;
-#[cfg(test)]
 mod top;

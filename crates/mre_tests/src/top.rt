@@ -1,7 +1,13 @@
-mod answers;
+mod counts;
+mod disagreements;
+mod explanations;
 mod failing_calls;
+mod faults;
+mod lists;
 mod making;
 mod order;
+mod plans;
 mod reads;
-mod refusals;
 mod requests;
+mod texts;
+mod unbuilt;

@@ -1,25 +1,28 @@
--- Which status is due by the words, by what the shelf holds and by the contents of the files.
-use Rattle.std.proofs.Common.{◌≡◌, ◌⊎◌, ℕ, ◌<◌, ◌≤◌, List, [], ◌∷◌, length, map, Some, get_or, refl, sym, ap, ◌∙◌, subst, inl, inr, arith}
+-- Which status is due by the request, by what the shelf holds and by the contents of the files.
+use Rattle.std.proofs.Common.{◌≡◌, ◌⊎◌, ℕ, ◌<◌, ◌≤◌, List, [], ◌∷◌, length, map, Option, None, Some, get_or, refl, sym, ap, ◌∙◌, subst, inl, inr, arith}
 use Rattle.std.specs.Ordering.{nat_cmp}
 use Rattle.std.specs.FinSet as set
-use Rattle.std.specs.Prelude.{is_some, ◌≢◌, IsSome, IsSomeAnd, slice_get}
+use Rattle.std.specs.Prelude.{is_some, IsSome, IsSomeAnd, slice_get}
 use Rattle.std.specs.Option.{option_map}
 use Rattle.std.specs.FinMap as files_map
 use Rattle.std.proofs.lemmas.Bool.{true≢false}
 use Rattle.std.proofs.lemmas.Option.{slice_get-map, slice_get-get_or}
 use Rattle.model_kit.proofs.Loops.{All_item}
-use Rattle.model_kit.specs.Explanations.{Task}
 use Rattle.mre_outside.specs.Shelves.{Files}
 use Rattle.mre_outside.specs.declared.shelf.ShelfCall.{ShelfCall}
 use Rattle.mre_top.specs.declared.refusal.Refusal.{Refusal}
-use Rattle.mre_top.specs.declared.refusal.Refusal.TheVariants.{Usage, ReadFailed, WriteFailed, TooLong, NoMemory}
-use Rattle.mre_top.specs.Requests.{requested, names_of}
+use Rattle.mre_top.specs.declared.refusal.Refusal.TheVariants.{Usage, ReadFailed, WriteFailed, TooLong, Stopped, NoMemory}
+use Rattle.mre_words.specs.declared.request.Request.{Request}
+use Rattle.mre_words.specs.Requests.{names_in}
+use Rattle.request_answers.specs.declared.stop.AnswerStop.{AnswerStop}
+use Rattle.request_answers.specs.Ends.{EndsAt}
+use Rattle.request_answers.specs.Lines.{status_of as stop_status}
+use Rattle.request_answers.proofs.OneEnd.{ends_once}
+use Rattle.request_answers.proofs.Ending.{due_ends, answer_ends}
 use Rattle.mre_top.specs.Reads.{AreRead, IsTooLong, IsFirstTooLong, name_at, file_limit}
 use Rattle.mre_top.specs.Refusals.{status_of}
-use Rattle.mre_top.specs.Questions.{IsExplained}
-use Rattle.mre_top.specs.Causes.{IsCause, IsDueOf, AreExplained}
+use Rattle.mre_top.specs.Causes.{IsCause, IsDueOf, AreAnswered, EndWith}
 use Rattle.mre_top.specs.Outcomes.{IsUnlessEarlier}
-use Rattle.mre_top.proofs.OneEnd.{EndsAt, due_once, due_ends, cheapest_ends}
 
 same_under : (xs ys : List (List ℕ)) → map Some xs ≡ map Some ys → xs ≡ ys
 same_under [] [] e = refl
@@ -55,48 +58,46 @@ not_too_long files names contents file read within long =
 abbrev pub IsUnlessCut : ℕ → ℕ → Type 0
 IsUnlessCut status due = IsUnlessEarlier status due ⊎ ((status ≡ 4) × (due ≡ 0))
 
--- an explanation is of texts whose plan is cheapest
-explained_ends : (contents : List (List ℕ)) (task : Task) (told : set.FinSet nat_cmp) → IsExplained contents task told → EndsAt contents 0
-explained_ends contents task told is =
-    cheapest_ends contents (record { planner = is.planner; user = is.user; plan = is.plan; differences = is.differences; served = is.served; cheapest = is.cheapest })
+module _ (asks : Option Request) (files : Files) (status : ℕ) where
+  request_once : (one two : Request) → asks ≡ Some one → asks ≡ Some two → one ≡ two
+  request_once one two first second = let both : Some one ≡ Some two = sym first ∙ second in cc
 
-module _ (words : List (List ℕ)) (files : Files) (asks : IsSome (requested words)) (status : ℕ) where
   -- the files that were read are those that are due
-  module _ (contents : List (List ℕ)) (read : AreRead (Some files) (names_of words) contents) (due : ℕ) (end : EndsAt contents due) where
-    by_due : (refusal : Refusal) → refusal ≢ NoMemory → IsDueOf (names_of words) (Some files) refusal → status_of refusal ≡ due
-    by_due refusal some is =
-        let same = contents_once files (names_of words) is.contents contents is.read read in
-        due_once contents (status_of refusal) due (subst (λ c. EndsAt c (status_of refusal)) same (due_ends is.contents refusal some is.due)) end
+  module _ (end : ℕ) (with : EndWith asks (Some files) end) where
+    -- other contents of the same files are these, and end so too
+    same_end : (request : Request) (contents : List (List ℕ)) (other : ℕ) → asks ≡ Some request → AreRead (Some files) (names_in asks) contents → EndsAt request contents other → other ≡ end
+    same_end request contents other asked read ends =
+        let requests = request_once request with.request asked with.asked in
+        let texts = contents_once files (names_in asks) contents with.contents read with.read in
+        let F : Request × List (List ℕ) → Type 0 = λ t. EndsAt t.0 t.1 other in
+        ends_once with.request with.contents other end (subst F (λ i. (requests i, texts i)) ends) with.ends
 
-    pub by_explained : (task : Task) (told : set.FinSet nat_cmp) → AreExplained (names_of words) (Some files) task told → due ≡ 0
-    by_explained task told is =
-        let same = contents_once files (names_of words) is.contents contents is.read read in
-        due_once contents due 0 end (subst (λ c. EndsAt c 0) same (explained_ends is.contents task told is.explained))
+    pub by_answered : (told : set.FinSet nat_cmp) (text : List ℕ) → AreAnswered asks (Some files) told text → end ≡ 0
+    by_answered told text is = sym (same_end is.request is.contents 0 is.asked is.read (answer_ends is.request is.contents told text is.answer))
 
-    other : (refusal : Refusal) → refusal ≢ NoMemory → IsDueOf (names_of words) (Some files) refusal → (status ≡ status_of refusal) ⊎ (status ≡ 9) → IsUnlessCut status due
-    other refusal some is (inl s) = inl (inl (s ∙ by_due refusal some is))
-    other refusal some is (inr s) = inl (inr (inr s))
+    by_due : (stop : AnswerStop) → IsDueOf asks (Some files) stop → stop_status stop ≡ end
+    by_due stop is = same_end is.request is.contents (stop_status stop) is.asked is.read (due_ends is.request is.contents stop is.some is.due)
 
-    pub due_status : (refusal : Refusal) (calls : List ShelfCall) → IsCause words (Some files) refusal calls → (status ≡ status_of refusal) ⊎ (status ≡ 9) → IsUnlessCut status due
-    due_status Usage calls cause by = absurd (true≢false (sym asks ∙ ap is_some cause.0))
+    pub due_status : (refusal : Refusal) (calls : List ShelfCall) → IsCause asks (Some files) refusal calls → (status ≡ status_of refusal) ⊎ (status ≡ 9) → IsUnlessCut status end
+    due_status Usage calls cause by = let both : Some with.request ≡ None = sym with.asked ∙ cause.0 in absurd (cc)
     due_status (ReadFailed file) calls cause by = elim by [ inl s ↦ inl (inr (inl s)) | inr s ↦ inl (inr (inr s)) ]
-    due_status (TooLong file) calls cause by = absurd (not_too_long files (names_of words) contents file read cause.0 cause.2)
+    due_status (TooLong file) calls cause by = absurd (not_too_long files (names_in asks) with.contents file with.read cause.0 cause.2)
     due_status NoMemory calls cause by = elim by [ inl s ↦ inl (inr (inr s)) | inr s ↦ inl (inr (inr s)) ]
-    due_status WriteFailed calls cause by = elim by [ inl s ↦ inr (s, by_explained cause.0.0 cause.0.1 cause.0.2) | inr s ↦ inl (inr (inr s)) ]
-    due_status refusal calls cause by = other refusal (λ e. cc) cause.0 by
+    due_status WriteFailed calls cause by = elim by [ inl s ↦ inr (s, by_answered cause.0.0 cause.0.1 cause.0.2) | inr s ↦ inl (inr (inr s)) ]
+    due_status (Stopped stop) calls cause by = elim by [ inl s ↦ inl (inl (s ∙ by_due stop cause.0)) | inr s ↦ inl (inr (inr s)) ]
 
   -- a file that is too long
-  module _ (long : IsFirstTooLong (Some files) (names_of words)) where
-    all_read : (contents : List (List ℕ)) → AreRead (Some files) (names_of words) contents → ⊥
-    all_read contents read = not_too_long files (names_of words) contents long.0 read long.1 long.3
+  module _ (long : IsFirstTooLong (Some files) (names_in asks)) where
+    all_read : (contents : List (List ℕ)) → AreRead (Some files) (names_in asks) contents → ⊥
+    all_read contents read = not_too_long files (names_in asks) contents long.0 read long.1 long.3
 
-    pub long_status : (refusal : Refusal) (calls : List ShelfCall) → IsCause words (Some files) refusal calls → (status ≡ status_of refusal) ⊎ (status ≡ 9) → IsUnlessEarlier status 7
-    long_status Usage calls cause by = absurd (true≢false (sym asks ∙ ap is_some cause.0))
-    long_status (ReadFailed file) calls cause by = elim by [ inl s ↦ inr (inl s) | inr s ↦ inr (inr s) ]
-    long_status (TooLong file) calls cause by = elim by [ inl s ↦ inl s | inr s ↦ inr (inr s) ]
-    long_status NoMemory calls cause by = elim by [ inl s ↦ inr (inr s) | inr s ↦ inr (inr s) ]
-    long_status WriteFailed calls cause by = absurd (all_read cause.0.2.contents cause.0.2.read)
-    long_status refusal calls cause by = absurd (all_read cause.0.contents cause.0.read)
+    pub long_status : IsSome asks → (refusal : Refusal) (calls : List ShelfCall) → IsCause asks (Some files) refusal calls → (status ≡ status_of refusal) ⊎ (status ≡ 9) → IsUnlessEarlier status 7
+    long_status some Usage calls cause by = absurd (true≢false (sym some ∙ ap is_some cause.0))
+    long_status some (ReadFailed file) calls cause by = elim by [ inl s ↦ inr (inl s) | inr s ↦ inr (inr s) ]
+    long_status some (TooLong file) calls cause by = elim by [ inl s ↦ inl s | inr s ↦ inr (inr s) ]
+    long_status some NoMemory calls cause by = elim by [ inl s ↦ inr (inr s) | inr s ↦ inr (inr s) ]
+    long_status some WriteFailed calls cause by = absurd (all_read cause.0.2.contents cause.0.2.read)
+    long_status some (Stopped stop) calls cause by = absurd (all_read cause.0.contents cause.0.read)
 
-    pub long_explained : (task : Task) (told : set.FinSet nat_cmp) → AreExplained (names_of words) (Some files) task told → ⊥
-    long_explained task told is = all_read is.contents is.read
+    pub long_answered : (told : set.FinSet nat_cmp) (text : List ℕ) → AreAnswered asks (Some files) told text → ⊥
+    long_answered told text is = all_read is.contents is.read

@@ -1,14 +1,13 @@
 -- Lines that are written one after another.
-use Rattle.std.proofs.Common.{◌≡◌, ℕ, zero, suc, ◌+◌, ◌<◌, ◌≤◌, List, [], ◌∷◌, ◌++◌, map, take, length, get_or, Option, Some, sym, ap, ◌∙◌, subst, append_assoc, arith, ⊎_elim}
+use Rattle.std.proofs.Common.{◌≡◌, ℕ, zero, suc, ◌+◌, ◌<◌, ◌≤◌, List, [], ◌∷◌, ◌++◌, take, length, get_or, Option, Some, sym, ap, ◌∙◌, subst, append_assoc, arith, ⊎_elim}
 use Rattle.std.specs.List.{concat, slice_get}
 use Rattle.std.specs.Io.KnownBytes.{Appends}
 use Rattle.std.proofs.Math.Seq.{take-append-add, take-length}
-use Rattle.std.proofs.lemmas.List.{take_more, map_more, take_all, take-append-le, append-nil}
+use Rattle.std.proofs.lemmas.List.{take_more, take_all, take-append-le, append-nil}
 use Rattle.std.proofs.lemmas.List.Folds.{concat-append}
 use Rattle.std.proofs.lemmas.Option.{slice_get_within, get_or_from_slice_get}
 use Rattle.std.proofs.lemmas.Bool.{cases_lt}
 use Rattle.mre_outside.specs.Sinks.{AppendsPrefix}
-use Rattle.mre_top.specs.Refusals.{line}
 use Rattle.mre_top.proofs.Written.{Appends-twice}
 
 -- the lines before one, that line, and the rest
@@ -48,10 +47,3 @@ wrote_part ls k line at old mid new before here =
     let split = parts ls k line at in
     let prefix = prefix_of_parts (concat (take k ls)) line split.0 here.0 in
     (prefix.0, subst (Appends old new) (sym (ap (take prefix.0) split.1 ∙ prefix.1)) (Appends-twice old mid new (concat (take k ls)) (take here.0 line) before here.1))
-
--- one line more was put behind some
-pub pushed : (before steps : List (List ℕ)) (k : ℕ) (step : List ℕ) → slice_get steps k ≡ Some step → (old new : List (List ℕ)) (text : List ℕ)
-    → old ≡ before ++ map line (take k steps) → text ≡ line step → new ≡ old ++ text ∷ [] → new ≡ before ++ map line (take (k + 1) steps)
-pushed before steps k step at old new text so_far is now =
-    now ∙ (λ i. so_far i ++ is i ∷ []) ∙ append_assoc before (map line (take k steps)) (line step ∷ [])
-    ∙ ap (λ l. before ++ l) (sym (map_more line steps k [] (slice_get_within steps k step at) ∙ ap (λ x. map line (take k steps) ++ line x ∷ []) (get_or_from_slice_get steps k step [] at)))

@@ -1,117 +1,72 @@
--- What stands behind each refusal: in the words, in what the shelf holds, and in the contents of the five files.
-use Rattle.std.specs.Prelude.{ℕ, ◌≡◌, ◌⊎◌, List, [], Option, None}
+-- What stands behind each refusal, and behind an answer: in the request, in what the shelf holds, and in the contents of the files.
+use Rattle.std.specs.Prelude.{ℕ, ◌≡◌, ◌≢◌, List, [], Option, None, Some}
 use Rattle.std.specs.Ordering.{nat_cmp}
 use Rattle.std.specs.FinSet as set
-use Rattle.model_kit.specs.declared.model.Model.{Model}
-use Rattle.model_kit.specs.declared.action.GroundAction.{GroundAction}
-use Rattle.model_kit.specs.Places.{meaning}
-use Rattle.model_kit.specs.Runs.{IsCheapest}
-use Rattle.model_kit.specs.Explanations.{Task}
-use Rattle.feature_diff.specs.declared.difference.Difference.{Difference}
-use Rattle.feature_diff.specs.Differing.{AreTooMany}
 use Rattle.mre_outside.specs.Shelves.{Files}
 use Rattle.mre_outside.specs.declared.shelf.ShelfCall.{ShelfCall}
+use Rattle.mre_words.specs.declared.request.Request.{Request}
+use Rattle.mre_words.specs.Requests.{names_in}
+use Rattle.request_answers.specs.declared.stop.AnswerStop.{AnswerStop}
+use Rattle.request_answers.specs.declared.stop.AnswerStop.TheVariants.{NoMemory as Exhausted}
+use Rattle.request_answers.specs.Causes.{IsDue}
+use Rattle.request_answers.specs.Lines.{IsOfFile}
+use Rattle.request_answers.specs.Outputs.{IsAnswer}
+use Rattle.request_answers.specs.Ends.{EndsAt}
 use Rattle.mre_top.specs.declared.refusal.Refusal.{Refusal}
-use Rattle.mre_top.specs.declared.refusal.PlanFault.{PlanFault}
-use Rattle.mre_top.specs.declared.refusal.Refusal.TheVariants.{Usage, ReadFailed, WriteFailed, TooLong, Unbuilt, TooManyDifferences, TooManySteps, NotValid, NotCheapest, NoMemory}
-use Rattle.mre_top.specs.Requests.{requested, names_of}
+use Rattle.mre_top.specs.declared.refusal.Refusal.TheVariants.{Usage, ReadFailed, WriteFailed, TooLong, Stopped, NoMemory}
 use Rattle.mre_top.specs.Reads.{AreRead, StopsReading, reads}
-use Rattle.mre_top.specs.Questions.{Pose, AreServed, IsFirstOutside, IsFault, IsUndercut, IsExplained}
-use Rattle.mre_top.specs.Steps.{AreTooManySteps, AreNotTried}
 
--- the texts are in the form, and there are more than 16 differences, which can't be served yet
-pub record AreNotServed (contents : List (List ℕ)) (file : ℕ) : Type 0 where
-  pub planner : Model
-  pub user : Model
-  pub plan : List GroundAction
-  pub pose : Pose contents planner user plan
-  pub many : AreNotTried planner user plan file
+-- ---- the contents of the files that a request names, or none where there is no request
 
--- the texts are in the form, and there are so many differences, more than 256
-pub record HaveManyDifferences (contents : List (List ℕ)) (found : ℕ) : Type 0 where
-  pub planner : Model
-  pub user : Model
-  pub plan : List GroundAction
-  pub pose : Pose contents planner user plan
-  pub many : AreTooMany planner user found
-
--- the texts are in the form with at most 256 differences, and the plan has so many steps, more than 10000
-pub record HaveManySteps (contents : List (List ℕ)) (found : ℕ) : Type 0 where
-  pub planner : Model
-  pub user : Model
-  pub plan : List GroundAction
-  pub pose : Pose contents planner user plan
-  pub many : AreTooManySteps planner user plan found
-
--- the texts are served, and something is wrong with the plan in the planner's model
-pub record HaveFault (contents : List (List ℕ)) (fault : PlanFault) : Type 0 where
-  pub planner : Model
-  pub user : Model
-  pub plan : List GroundAction
-  pub differences : List Difference
-  pub served : AreServed contents planner user plan differences
-  pub is : IsFault planner.words (meaning planner) plan fault
-
--- the texts are served, and in the planner's model the printed steps cost less than the plan
-pub record HaveCheaper (contents : List (List ℕ)) (cost other : ℕ) (steps : List (List ℕ)) : Type 0 where
-  pub planner : Model
-  pub user : Model
-  pub plan : List GroundAction
-  pub differences : List Difference
-  pub served : AreServed contents planner user plan differences
-  pub undercut : IsUndercut planner.words (meaning planner) plan cost other steps
-
--- the texts are served, and the plan is cheapest in the planner's model
-pub record HaveCheapest (contents : List (List ℕ)) : Type 0 where
-  pub planner : Model
-  pub user : Model
-  pub plan : List GroundAction
-  pub differences : List Difference
-  pub served : AreServed contents planner user plan differences
-  pub cheapest : IsCheapest planner.words (meaning planner) plan
-
--- why the contents of the five files are not explained
-abbrev pub IsDue : List (List ℕ) → Refusal → Type 0
-IsDue contents (Unbuilt file) = IsFirstOutside contents file ⊎ AreNotServed contents file
-IsDue contents (TooManyDifferences found) = HaveManyDifferences contents found
-IsDue contents (TooManySteps found) = HaveManySteps contents found
-IsDue contents (NotValid fault) = HaveFault contents fault
-IsDue contents (NotCheapest cost other steps) = HaveCheaper contents cost other steps
-IsDue contents NoMemory = Unit {0}
-IsDue contents _ = ⊥
-
--- the same of files with these names that the shelf holds
-pub record IsDueOf (names : List (List ℕ)) (held : Option Files) (refusal : Refusal) : Type 0 where
+-- the files can all be read, and their contents have this cause, which isn't want of memory
+pub record IsDueOf (asks : Option Request) (held : Option Files) (stop : AnswerStop) : Type 0 where
+  pub request : Request
+  pub asked : asks ≡ Some request
   pub contents : List (List ℕ)
-  pub read : AreRead held names contents
-  pub due : IsDue contents refusal
+  pub read : AreRead held (names_in asks) contents
+  pub due : IsDue request contents stop
+  pub some : stop ≢ Exhausted
 
--- the files with these names can all be read, and are texts whose plan is cheapest in the planner's model, with at most 16 differences
-pub record AreExplainable (names : List (List ℕ)) (held : Option Files) : Type 0 where
+-- the files can all be read, and this is printed about their contents, which tells the differences in the set
+pub record AreAnswered (asks : Option Request) (held : Option Files) (told : set.FinSet nat_cmp) (text : List ℕ) : Type 0 where
+  pub request : Request
+  pub asked : asks ≡ Some request
   pub contents : List (List ℕ)
-  pub read : AreRead held names contents
-  pub have : HaveCheapest contents
+  pub read : AreRead held (names_in asks) contents
+  pub answer : IsAnswer request contents told text
 
--- the files with these names are explained so
-pub record AreExplained (names : List (List ℕ)) (held : Option Files) (task : Task) (told : set.FinSet nat_cmp) : Type 0 where
+-- the files can all be read, and their contents end with this status
+pub record EndWith (asks : Option Request) (held : Option Files) (status : ℕ) : Type 0 where
+  pub request : Request
+  pub asked : asks ≡ Some request
   pub contents : List (List ℕ)
-  pub read : AreRead held names contents
-  pub explained : IsExplained contents task told
+  pub read : AreRead held (names_in asks) contents
+  pub ends : EndsAt request contents status
 
--- the files with these names have an explanation
-abbrev pub HaveExplanation : List (List ℕ) → Option Files → Type 0
-HaveExplanation names held = (task : Task) × (told : set.FinSet nat_cmp) × AreExplained names held task told
+-- something is printed about the files
+abbrev pub HaveAnswer : Option Request → Option Files → Type 0
+HaveAnswer asks held = (told : set.FinSet nat_cmp) × (text : List ℕ) × AreAnswered asks held told text
 
--- why a request for these files ended so, where the shelf held this, and what it asked of the shelf until then
-abbrev pub IsCauseFor : List (List ℕ) → Option Files → Refusal → List ShelfCall → Type 0
-IsCauseFor names held Usage calls = ⊥
-IsCauseFor names held (ReadFailed file) calls = StopsReading names held (ReadFailed file) calls
-IsCauseFor names held (TooLong file) calls = StopsReading names held (TooLong file) calls
-IsCauseFor names held NoMemory calls = StopsReading names held NoMemory calls
-IsCauseFor names held WriteFailed calls = HaveExplanation names held × (calls ≡ reads names)
-IsCauseFor names held refusal calls = IsDueOf names held refusal × (calls ≡ reads names)
+-- ---- refusals
 
--- why a call with these words ended so
-abbrev pub IsCause : List (List ℕ) → Option Files → Refusal → List ShelfCall → Type 0
-IsCause words held Usage calls = (requested words ≡ None) × (calls ≡ [])
-IsCause words held refusal calls = IsCauseFor (names_of words) held refusal calls
+-- why a call with this request, or with none, ended so, where the shelf held this, and what it asked of the shelf until then
+abbrev pub IsCause : Option Request → Option Files → Refusal → List ShelfCall → Type 0
+IsCause asks held Usage calls = (asks ≡ None) × (calls ≡ [])
+IsCause asks held (ReadFailed file) calls = StopsReading (names_in asks) held (ReadFailed file) calls
+IsCause asks held (TooLong file) calls = StopsReading (names_in asks) held (TooLong file) calls
+IsCause asks held NoMemory calls = StopsReading (names_in asks) held NoMemory calls
+IsCause asks held WriteFailed calls = HaveAnswer asks held × (calls ≡ reads (names_in asks))
+IsCause asks held (Stopped stop) calls = IsDueOf asks held stop × (calls ≡ reads (names_in asks))
+
+-- ---- the way from the contents to an answer
+
+-- the contents are the cause, or memory ran out
+abbrev pub IsOfContents : Request → List (List ℕ) → Refusal → Type 0
+IsOfContents request contents (Stopped stop) = IsDue request contents stop × (stop ≢ Exhausted)
+IsOfContents request contents NoMemory = Unit {0}
+IsOfContents request contents _ = ⊥
+
+-- such a refusal that is about a file is about one of so many
+abbrev pub IsOfFileCount : ℕ → Refusal → Type 0
+IsOfFileCount count (Stopped stop) = IsOfFile count stop
+IsOfFileCount count _ = Unit {0}

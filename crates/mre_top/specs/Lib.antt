@@ -2,9 +2,6 @@ pub mod Causes
 pub mod Endings
 pub mod Explains
 pub mod Outcomes
-pub mod Questions
 pub mod Reads
 pub mod Refusals
-pub mod Requests
-pub mod Steps
 pub mod Telling

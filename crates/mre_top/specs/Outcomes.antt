@@ -3,23 +3,39 @@ use Rattle.std.specs.Prelude.{◌≡◌, ◌⊎◌, ◌≤◌, ◌<◌, ◌+◌,
 use Rattle.mre_outside.specs.Shelves.{Files}
 use Rattle.mre_outside.specs.declared.shelf.ShelfCall.{ShelfCall}
 use Rattle.mre_top.specs.declared.refusal.Refusal.{Refusal}
-use Rattle.mre_top.specs.declared.refusal.Refusal.TheVariants.{TooLong, TooManyDifferences, TooManySteps}
-use Rattle.mre_top.specs.Requests.{names_of}
+use Rattle.mre_top.specs.declared.refusal.Refusal.TheVariants.{TooLong, Stopped}
+use Rattle.mre_words.specs.declared.request.Request.{Request}
+use Rattle.mre_words.specs.Requests.{names_in}
+use Rattle.request_answers.specs.declared.stop.AnswerStop.{AnswerStop}
+use Rattle.request_answers.specs.declared.stop.AnswerStop.TheVariants.{Misread, Unbuilt, TooManyParameters, TooManyObjects, TooManyDifferences, TooManySteps}
 use Rattle.mre_top.specs.Reads.{asked_then, reads, read_of, name_at, IsTooLong}
 use Rattle.mre_top.specs.Causes.{IsCause}
 use Rattle.mre_top.specs.Telling.{IsWritten, told_by}
 
 -- the refusal has its cause, and its lines were written on the sink of faults
-pub record EndsBy (sound : Type 0) (words : List (List ℕ)) (held : Option Files) (old new : Option (List ℕ)) (faults_old faults_new : ℕ) (refusal : Refusal) : Type 0 where
+pub record EndsBy (sound : Type 0) (asks : Option Request) (held : Option Files) (old new : Option (List ℕ)) (faults_old faults_new : ℕ) (refusal : Refusal) : Type 0 where
   pub calls : List ShelfCall
-  pub cause : IsCause words held refusal calls
-  pub lines : IsWritten sound (told_by (names_of words) refusal) old new faults_old faults_new
+  pub cause : IsCause asks held refusal calls
+  pub lines : IsWritten sound (told_by (names_in asks) refusal) old new faults_old faults_new
+
+-- the stop is that a text has a fault, or that no explanation can be searched for yet
+abbrev pub IsOfText : AnswerStop → Type 0
+IsOfText (Misread file fault) = Unit {0}
+IsOfText (Unbuilt file) = Unit {0}
+IsOfText _ = ⊥
+
+-- the stop is that a count is past its limit
+abbrev pub IsOfCount : AnswerStop → Type 0
+IsOfCount (TooManyParameters found) = Unit {0}
+IsOfCount (TooManyObjects found) = Unit {0}
+IsOfCount (TooManyDifferences found) = Unit {0}
+IsOfCount (TooManySteps found) = Unit {0}
+IsOfCount _ = ⊥
 
 -- the refusal is that a count is past its limit
 abbrev pub IsPastLimit : Refusal → Type 0
 IsPastLimit (TooLong file) = Unit {0}
-IsPastLimit (TooManyDifferences found) = Unit {0}
-IsPastLimit (TooManySteps found) = Unit {0}
+IsPastLimit (Stopped stop) = IsOfCount stop
 IsPastLimit _ = ⊥
 
 -- the status is the one that is due, unless a read failed or memory ran out

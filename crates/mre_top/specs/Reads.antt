@@ -1,19 +1,16 @@
 -- What the reads of a request's files ask of the shelf, and what they get from it.
-use Rattle.std.specs.Prelude.{◌≡◌, ◌≤◌, ◌<◌, ◌+◌, ℕ, Bool, true, false, List, [], ◌∷◌, ◌++◌, length, map, take, slice_index_or, All, Option, None, Some, Result, Ok, Err, option_map, IfSome, IsSomeAnd}
+use Rattle.std.specs.Prelude.{◌≡◌, ◌≤◌, ◌<◌, ◌+◌, ℕ, Bool, true, false, List, [], ◌∷◌, ◌++◌, length, map, take, All, Option, None, Some, Result, Ok, Err, option_map, IfSome, IsSomeAnd}
 use Rattle.std.specs.FinMap as files_map
 use Rattle.mre_outside.specs.Shelves.{Files}
 use Rattle.mre_outside.specs.declared.shelf.Act.TheVariants.{Read}
 use Rattle.mre_outside.specs.declared.shelf.ShelfCall.{ShelfCall}
+pub use Rattle.request_answers.specs.Lines.{name_at}
 use Rattle.mre_top.specs.declared.refusal.Refusal.{Refusal}
 use Rattle.mre_top.specs.declared.refusal.Refusal.TheVariants.{ReadFailed, TooLong, NoMemory}
 
 -- how many bytes a file may have
 abbrev pub file_limit : ℕ
 file_limit = 4194304
-
--- the name at a place, counted from 0
-abbrev pub name_at : List (List ℕ) → ℕ → List ℕ
-name_at names file = slice_index_or names file []
 
 -- one read of a name, and whether it failed
 abbrev pub read_of : Bool → List ℕ → ShelfCall

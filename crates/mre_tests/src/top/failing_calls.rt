@@ -1,55 +1,93 @@
-use super::making::{numbers, shelf, words};
+use super::making::{DIFF, EXPLAIN, PLAN_PATCH, numbers, shelf, words};
+use super::texts::*;
 use mre_outside::{Act, MemoryShelf, MemorySink};
 use mre_top::explain_top;
 use std::alloc::Global;
 use std::process::Abort;
 use std::test::Fail;
 
-/// The texts of the two examples, without their comments.
-const DELIVERY: &str =
-    "(define (domain delivery)\n(:predicates (at-depot) (at-mill) (at-town) (bridge-open))\n(:action drive-to-mill\n :precondition (and (at-depot))\n :effect (and (at-mill) (not (at-depot))))\n(:action drive-to-town\n :precondition (and (at-mill))\n :effect (and (at-town) (not (at-mill))))\n(:action cross-bridge\n :precondition (and (at-depot) (bridge-open))\n :effect (and (at-town) (not (at-depot)))))\n";
+const LORRY_FILES: [&str; 5] = [LORRY, LORRY_CLOSED, LORRY, LORRY_OPEN, LORRY_PLAN];
 
-const CLOSED: &str =
-    "(define (problem today) (:domain delivery)\n(:init (at-depot))\n(:goal (and (at-town))))\n";
-
-const OPEN: &str =
-    "(define (problem today) (:domain delivery)\n(:init (at-depot) (bridge-open))\n(:goal (and (at-town))))\n";
-
-const GROUND: &str =
-    "(define (domain coffee)\n(:predicates (water-filled) (beans-ground) (coffee-ready))\n(:action grind\n :precondition (and)\n :effect (and (beans-ground)))\n(:action brew\n :precondition (and (water-filled) (beans-ground))\n :effect (and (coffee-ready))))\n";
-
-const WATER: &str =
-    "(define (domain coffee)\n(:predicates (water-filled) (beans-ground) (coffee-ready))\n(:action grind\n :precondition (and)\n :effect (and (beans-ground)))\n(:action brew\n :precondition (and (water-filled))\n :effect (and (coffee-ready))))\n";
-
-const MORNING: &str =
-    "(define (problem morning) (:domain coffee)\n(:init (water-filled))\n(:goal (and (coffee-ready))))\n";
-
-const DRIVES: &str = "(drive-to-mill)\n(drive-to-town)\n";
-
-const LORRY: [&str; 5] = [DELIVERY, CLOSED, DELIVERY, OPEN, DRIVES];
-
-const COFFEE: [&str; 5] = [GROUND, MORNING, WATER, MORNING, "(grind)\n(brew)\n"];
+const COFFEE_FILES: [&str; 5] = [
+    COFFEE,
+    COFFEE_MORNING,
+    COFFEE_WATER,
+    COFFEE_MORNING,
+    COFFEE_PLAN,
+];
 
 /// The planner's bridge is open too.
-const DETOUR: [&str; 5] = [DELIVERY, OPEN, DELIVERY, OPEN, DRIVES];
+const DETOUR: [&str; 5] = [LORRY, LORRY_OPEN, LORRY, LORRY_OPEN, LORRY_PLAN];
 
 /// The lorry isn't at the mill.
-const STRANDED: [&str; 5] = [DELIVERY, CLOSED, DELIVERY, OPEN, "(drive-to-town)\n"];
+const STRANDED: [&str; 5] = [LORRY, LORRY_CLOSED, LORRY, LORRY_OPEN, "(drive-to-town)\n"];
 
-/// Five contents; which read, which write of the answer and which write of the refusal fails, counted from 1, with 0 for
+/// The user's text has a fault.
+const UNREAD: [&str; 5] = [LORRY, LORRY_CLOSED, ")", LORRY_OPEN, LORRY_PLAN];
+
+/// A request over five contents; which read, which write of the answer and which write of the refusal fails, counted from 1, with 0 for
 /// none; the status, what stands on both outputs, and how many reads were asked.
-type Row<'a> = ([&'a str; 5], [u32; 3], u8, &'a str, &'a str, usize);
+type Row<'a> = (&'a str, [&'a str; 5], [u32; 3], u8, &'a str, &'a str, usize);
 
-const ROWS: [Row<'static>; 22] = [
-    (LORRY, [1, 0, 0], 3, "", "mre: pd: read failed\n", 1),
-    (LORRY, [2, 0, 0], 3, "", "mre: pp: read failed\n", 2),
-    (LORRY, [3, 0, 0], 3, "", "mre: ud: read failed\n", 3),
-    (LORRY, [4, 0, 0], 3, "", "mre: up: read failed\n", 4),
-    (LORRY, [5, 0, 0], 3, "", "mre: plan: read failed\n", 5),
-    (LORRY, [3, 0, 1], 3, "", "mre: ud: r", 3),
-    (LORRY, [0, 1, 0], 4, "mce 1", "mre: write failed\n", 5),
+const ROWS: [Row<'static>; 28] = [
     (
-        LORRY,
+        EXPLAIN,
+        LORRY_FILES,
+        [1, 0, 0],
+        3,
+        "",
+        "mre: pd: read failed\n",
+        1,
+    ),
+    (
+        EXPLAIN,
+        LORRY_FILES,
+        [2, 0, 0],
+        3,
+        "",
+        "mre: pp: read failed\n",
+        2,
+    ),
+    (
+        EXPLAIN,
+        LORRY_FILES,
+        [3, 0, 0],
+        3,
+        "",
+        "mre: ud: read failed\n",
+        3,
+    ),
+    (
+        EXPLAIN,
+        LORRY_FILES,
+        [4, 0, 0],
+        3,
+        "",
+        "mre: up: read failed\n",
+        4,
+    ),
+    (
+        EXPLAIN,
+        LORRY_FILES,
+        [5, 0, 0],
+        3,
+        "",
+        "mre: plan: read failed\n",
+        5,
+    ),
+    (EXPLAIN, LORRY_FILES, [3, 0, 1], 3, "", "mre: ud: r", 3),
+    (
+        EXPLAIN,
+        LORRY_FILES,
+        [0, 1, 0],
+        4,
+        "mce 1",
+        "mre: write failed\n",
+        5,
+    ),
+    (
+        EXPLAIN,
+        LORRY_FILES,
         [0, 2, 0],
         4,
         "mce 1 of 1\n1 initially (bridge",
@@ -57,30 +95,81 @@ const ROWS: [Row<'static>; 22] = [
         5,
     ),
     (
-        LORRY,
+        EXPLAIN,
+        LORRY_FILES,
         [0, 3, 0],
         4,
         "mce 1 of 1\n1 initially (bridge-open) is not true\ncos",
         "mre: write failed\n",
         5,
     ),
-    (LORRY, [0, 1, 1], 4, "mce 1", "mre: writ", 5),
+    (EXPLAIN, LORRY_FILES, [0, 1, 1], 4, "mce 1", "mre: writ", 5),
     (
-        LORRY,
+        EXPLAIN,
+        LORRY_FILES,
         [6, 4, 1],
         0,
         "mce 1 of 1\n1 initially (bridge-open) is not true\ncost 2\n",
         "",
         5,
     ),
-    (COFFEE, [1, 0, 0], 3, "", "mre: pd: read failed\n", 1),
-    (COFFEE, [2, 0, 0], 3, "", "mre: pp: read failed\n", 2),
-    (COFFEE, [3, 0, 0], 3, "", "mre: ud: read failed\n", 3),
-    (COFFEE, [4, 0, 0], 3, "", "mre: up: read failed\n", 4),
-    (COFFEE, [5, 0, 0], 3, "", "mre: plan: read failed\n", 5),
-    (COFFEE, [0, 1, 0], 4, "mce 1", "mre: write failed\n", 5),
     (
-        COFFEE,
+        EXPLAIN,
+        COFFEE_FILES,
+        [1, 0, 0],
+        3,
+        "",
+        "mre: pd: read failed\n",
+        1,
+    ),
+    (
+        EXPLAIN,
+        COFFEE_FILES,
+        [2, 0, 0],
+        3,
+        "",
+        "mre: pp: read failed\n",
+        2,
+    ),
+    (
+        EXPLAIN,
+        COFFEE_FILES,
+        [3, 0, 0],
+        3,
+        "",
+        "mre: ud: read failed\n",
+        3,
+    ),
+    (
+        EXPLAIN,
+        COFFEE_FILES,
+        [4, 0, 0],
+        3,
+        "",
+        "mre: up: read failed\n",
+        4,
+    ),
+    (
+        EXPLAIN,
+        COFFEE_FILES,
+        [5, 0, 0],
+        3,
+        "",
+        "mre: plan: read failed\n",
+        5,
+    ),
+    (
+        EXPLAIN,
+        COFFEE_FILES,
+        [0, 1, 0],
+        4,
+        "mce 1",
+        "mre: write failed\n",
+        5,
+    ),
+    (
+        EXPLAIN,
+        COFFEE_FILES,
         [0, 2, 0],
         4,
         "mce 1 of 1\n1 action brew nee",
@@ -88,21 +177,69 @@ const ROWS: [Row<'static>; 22] = [
         5,
     ),
     (
-        COFFEE,
+        EXPLAIN,
+        COFFEE_FILES,
         [0, 3, 0],
         4,
         "mce 1 of 1\n1 action brew needs (beans-ground)\ncos",
         "mre: write failed\n",
         5,
     ),
-    (STRANDED, [0, 1, 1], 10, "", "mre: plan step 1", 5),
-    (DETOUR, [0, 1, 1], 11, "", "mre: plan costs 2, ", 5),
+    (EXPLAIN, STRANDED, [0, 1, 1], 10, "", "mre: plan step 1", 5),
+    (EXPLAIN, DETOUR, [0, 1, 1], 11, "", "mre: plan costs 2, ", 5),
     (
+        EXPLAIN,
         DETOUR,
         [0, 1, 2],
         11,
         "",
         "mre: plan costs 2, these lines cost 1:\n(cross-",
+        5,
+    ),
+    (EXPLAIN, UNREAD, [0, 1, 1], 5, "", "mre: ud:1", 5),
+    (
+        DIFF,
+        LORRY_FILES,
+        [4, 0, 0],
+        3,
+        "",
+        "mre: up: read failed\n",
+        4,
+    ),
+    (
+        DIFF,
+        LORRY_FILES,
+        [0, 2, 0],
+        4,
+        "differences 1\n1 initially (bridge",
+        "mre: write failed\n",
+        4,
+    ),
+    (
+        DIFF,
+        LORRY_FILES,
+        [5, 3, 1],
+        0,
+        "differences 1\n1 initially (bridge-open) is not true\n",
+        "",
+        4,
+    ),
+    (
+        PLAN_PATCH,
+        LORRY_FILES,
+        [5, 0, 0],
+        3,
+        "",
+        "mre: plan: read failed\n",
+        5,
+    ),
+    (
+        PLAN_PATCH,
+        LORRY_FILES,
+        [0, 1, 0],
+        4,
+        "plan-patc",
+        "mre: write failed\n",
         5,
     ),
 ];
@@ -116,12 +253,12 @@ struct Left {
     files: MemoryShelf,
 }
 
-fn left_by(alloc: Global, texts: [&str; 5], failing: [u32; 3]) -> Result<Left, Fail> {
+fn left_by(alloc: Global, line: &str, texts: [&str; 5], failing: [u32; 3]) -> Result<Left, Fail> {
     let [read, answer_write, refusal_write] = failing;
     let mut files = shelf(alloc, texts, &[read])?;
     let mut out = MemorySink::new(alloc, numbers(alloc, &[answer_write])?);
     let mut faults = MemorySink::new(alloc, numbers(alloc, &[refusal_write])?);
-    let words = words(alloc, "explain mce pd pp ud up plan")?;
+    let words = words(alloc, line)?;
     let outcome = explain_top(alloc, words.as_slice(), &mut files, &mut out, &mut faults);
     Ok(Left {
         status: outcome.status,
@@ -133,11 +270,19 @@ fn left_by(alloc: Global, texts: [&str; 5], failing: [u32; 3]) -> Result<Left, F
 
 /// One call over the row's contents leaves what the row says.
 fn assert_row(rt: &impl Abort, alloc: Global, row: &Row<'_>) -> Result<(), Fail> {
-    let (texts, failing, status, printed, told, asked) = row;
-    let left = left_by(alloc, *texts, *failing)?;
-    assert_eq!(rt; left.status, *status, "failing {failing:?}");
-    assert_eq!(rt; left.out.bytes(), printed.as_bytes(), "failing {failing:?}");
-    assert_eq!(rt; left.faults.bytes(), told.as_bytes(), "failing {failing:?}");
+    let (line, texts, failing, status, printed, told, asked) = row;
+    let left = left_by(alloc, line, *texts, *failing)?;
+    assert_eq!(rt; left.status, *status, "{line} failing {failing:?}");
+    assert_eq!(rt;
+        left.out.bytes(),
+        printed.as_bytes(),
+        "{line} failing {failing:?}"
+    );
+    assert_eq!(rt;
+        left.faults.bytes(),
+        told.as_bytes(),
+        "{line} failing {failing:?}"
+    );
     assert_reads(rt, &left.files, *asked, *status == 3);
     Ok(())
 }

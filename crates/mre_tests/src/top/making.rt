@@ -5,17 +5,18 @@ use std::alloc::Global;
 use std::process::Abort;
 use std::test::Fail;
 
-/// Two ways to `(g)`: by `step` and `land` from `(p)`, or by `jump` from `(q)`.
-pub const DOMAIN: &str =
-    "(define (domain u)\n(:predicates (p) (q) (m) (g))\n(:action step :precondition (and (p)) :effect (and (m)))\n(:action land :precondition (and (m)) :effect (and (g)))\n(:action jump :precondition (and (q)) :effect (and (g))))\n";
+pub const EXPLAIN: &str = "explain mce pd pp ud up plan";
 
-pub const PLAN: &str = "(step)\n(land)\n";
+pub const DIFF: &str = "diff pd pp ud up";
 
-pub fn problem(alloc: Global, facts: &str) -> Result<String, Fail> {
-    Ok(format!(in alloc;
-        "(define (problem u1) (:domain u)\n(:init {facts})\n(:goal (and (g))))\n"
-    )?)
-}
+pub const PATCH: &str = "patch pd pp ud up plan";
+
+pub const PLAN_PATCH: &str = "plan-patch pd pp ud up plan";
+
+/// One call over the files `pd`, `pp`, `ud`, `up` and `plan`, and how it ends: the words; the five contents; the status; how many
+/// differences the answer tells, where an explanation is printed; and what is written, at status 0 on the sink of answers and
+/// else on the sink of faults, while the other sink stays empty.
+pub type Row<'a> = (&'a str, [&'a str; 5], u8, Option<u32>, &'a str);
 
 pub fn words(alloc: Global, line: &str) -> Result<Vec<String>, Fail> {
     let mut words = Vec::new(alloc);
@@ -31,6 +32,23 @@ pub fn numbers(alloc: Global, given: &[u32]) -> Result<List<u32>, Fail> {
         numbers.push(number)?;
     }
     Ok(numbers)
+}
+
+/// The first text, so many times a number from 0 between the second and the third, and the last text.
+pub fn numbered(
+    alloc: Global,
+    head: &str,
+    around: [&str; 2],
+    count: u32,
+    tail: &str,
+) -> Result<String, Fail> {
+    let [before, behind] = around;
+    let mut text = String::from_str(alloc, head)?;
+    for number in 0..count {
+        write!(text, "{before}{number}{behind}")?;
+    }
+    text.push_str(tail)?;
+    Ok(text)
 }
 
 /// A shelf with the five files, where the calls with these numbers fail.
@@ -55,15 +73,10 @@ pub struct Seen {
     pub asked: usize,
 }
 
-/// One call over a shelf, where the writes on the sink of answers with these numbers fail.
-pub fn call(
-    alloc: Global,
-    line: &str,
-    files: &mut MemoryShelf,
-    writes: &[u32],
-) -> Result<Seen, Fail> {
+/// One call over a shelf.
+pub fn call(alloc: Global, line: &str, files: &mut MemoryShelf) -> Result<Seen, Fail> {
     let words = words(alloc, line)?;
-    let mut out = MemorySink::new(alloc, numbers(alloc, writes)?);
+    let mut out = MemorySink::new(alloc, List::empty(alloc));
     let mut faults = SoundSink::new(alloc);
     let outcome = explain_top(alloc, words.as_slice(), files, &mut out, &mut faults);
     let told = match &outcome.answer {
@@ -79,37 +92,30 @@ pub fn call(
     })
 }
 
-/// The five files are explained: this is printed, and so many differences are told.
-pub fn explains(
-    rt: &impl Abort,
-    alloc: Global,
-    texts: [&str; 5],
-    told: u32,
-    printed: &str,
-) -> Result<(), Fail> {
+/// The row's call ends as the row says.
+pub fn assert_row(rt: &impl Abort, alloc: Global, row: &Row<'_>) -> Result<(), Fail> {
+    let (words, texts, status, told, written) = *row;
     let mut files = shelf(alloc, texts, &[])?;
-    let seen = call(alloc, "explain mce pd pp ud up plan", &mut files, &[])?;
-    assert_eq!(rt; seen.out.as_slice(), printed.as_bytes());
-    assert_eq!(rt; seen.status, 0, "{printed}");
-    assert_eq!(rt; seen.told, Some(told), "{printed}");
-    assert!(rt; seen.faults.is_empty(), "{printed}");
-    assert_eq!(rt; seen.asked, 5, "{printed}");
+    let seen = call(alloc, words, &mut files)?;
+    let (out, faults) = if status == 0 {
+        (written, "")
+    } else {
+        ("", written)
+    };
+    assert_eq!(rt;
+        seen.faults.as_slice(),
+        faults.as_bytes(),
+        "{words}: {written}"
+    );
+    assert_eq!(rt; seen.out.as_slice(), out.as_bytes(), "{words}: {written}");
+    assert_eq!(rt; seen.status, status, "{words}: {written}");
+    assert_eq!(rt; seen.told, told, "{words}: {written}");
     Ok(())
 }
 
-/// The five files are refused: with this status, and with this on the sink of faults.
-pub fn refuses(
-    rt: &impl Abort,
-    alloc: Global,
-    texts: [&str; 5],
-    status: u8,
-    line: &str,
-) -> Result<(), Fail> {
-    let mut files = shelf(alloc, texts, &[])?;
-    let seen = call(alloc, "explain mce pd pp ud up plan", &mut files, &[])?;
-    assert_eq!(rt; seen.faults.as_slice(), line.as_bytes());
-    assert_eq!(rt; seen.status, status, "{line}");
-    assert_eq!(rt; seen.told, None, "{line}");
-    assert!(rt; seen.out.is_empty(), "{line}");
+pub fn assert_rows(rt: &impl Abort, alloc: Global, rows: &[Row<'_>]) -> Result<(), Fail> {
+    for row in rows {
+        assert_row(rt, alloc, row)?;
+    }
     Ok(())
 }

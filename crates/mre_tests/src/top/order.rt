@@ -1,89 +1,124 @@
-use super::making::{DOMAIN, call, refuses, shelf};
+use super::making::{EXPLAIN, PATCH, assert_row, call, numbered, shelf};
 use super::reads::too_long;
-use super::refusals::{facts, long_plan, wide, wide_problem};
+use super::texts::LAND;
 use std::test::Fail;
 
-/// Each of five actions has another condition in each of 64 places, and the plan has one step too many.
-#[test]
-fn differences_are_counted_before_steps(rt: HostRuntime) -> Result<(), Fail> {
-    let all = facts(rt.alloc(), 64)?;
-    let pd = wide(rt.alloc(), "")?;
-    let ud = wide(rt.alloc(), all.as_str())?;
-    let pp = wide_problem(rt.alloc(), 0)?;
-    let plan = long_plan(rt.alloc(), 10_001)?;
-    let texts = [
-        pd.as_str(),
-        pp.as_str(),
-        ud.as_str(),
-        pp.as_str(),
-        plan.as_str(),
-    ];
-    refuses(
-        &rt,
-        rt.alloc(),
-        texts,
-        7,
-        "mre: differences 320 limit 256\n",
-    )
-}
-
-/// The user has 17 facts more, and the plan doesn't make the goal true in any step.
-#[test]
-fn steps_are_counted_before_differences_that_are_not_tried(rt: HostRuntime) -> Result<(), Fail> {
-    let pd = wide(rt.alloc(), "(f40)")?;
-    let pp = wide_problem(rt.alloc(), 0)?;
-    let up = wide_problem(rt.alloc(), 17)?;
-    let plan = long_plan(rt.alloc(), 10_001)?;
-    let long = [
-        pd.as_str(),
-        pp.as_str(),
-        pd.as_str(),
-        up.as_str(),
-        plan.as_str(),
-    ];
-    refuses(
-        &rt,
-        rt.alloc(),
-        long,
-        7,
-        "mre: plan steps 10001 limit 10000\n",
-    )?;
-    let short = [pd.as_str(), pp.as_str(), pd.as_str(), up.as_str(), "(a0)\n"];
-    refuses(&rt, rt.alloc(), short, 5, "mre: plan:1:1: unbuilt\n")?;
-    let few = wide_problem(rt.alloc(), 16)?;
-    let judged = [
-        pd.as_str(),
-        pp.as_str(),
-        pd.as_str(),
-        few.as_str(),
-        "(a0)\n",
-    ];
-    refuses(
-        &rt,
-        rt.alloc(),
-        judged,
-        10,
-        "mre: plan step 1 needs (f40)\n",
-    )
-}
-
-/// A failed read comes before a text outside the form, and so does a file past its limit.
+/// A failed read comes before a text with a fault, and so does a file past its limit.
 #[test]
 fn reads_come_before_texts(rt: HostRuntime) -> Result<(), Fail> {
-    let mut files = shelf(rt.alloc(), ["(", "(", "(", "(", "("], &[5])?;
-    let seen = call(rt.alloc(), "explain mce pd pp ud up plan", &mut files, &[])?;
+    let alloc = rt.alloc();
+    let mut files = shelf(alloc, ["(", "(", "(", "(", "("], &[5])?;
+    let seen = call(alloc, EXPLAIN, &mut files)?;
     assert_eq!(rt; seen.status, 3);
     assert_eq!(rt;
         seen.faults.as_slice(),
         "mre: plan: read failed\n".as_bytes()
     );
-    let text = too_long(rt.alloc())?;
-    let texts = ["(", DOMAIN, text.as_str(), text.as_str(), "("];
-    refuses(
+    let text = too_long(alloc)?;
+    let texts = ["(", LAND, text.as_str(), text.as_str(), "("];
+    assert_row(
         &rt,
-        rt.alloc(),
-        texts,
-        7,
-        "mre: bytes of ud 4194305 limit 4194304\n",
+        alloc,
+        &(
+            EXPLAIN,
+            texts,
+            7,
+            None,
+            "mre: bytes of ud 4194305 limit 4194304\n",
+        ),
+    )
+}
+
+/// There are 1001 objects, of each of which the user knows a fact more; with nine parameters too; and with a plan that is no text.
+#[test]
+fn texts_come_before_parameters_and_these_before_objects(rt: HostRuntime) -> Result<(), Fail> {
+    let alloc = rt.alloc();
+    let domain = "(define (domain l) (:predicates (p ?x)) (:action go))";
+    let nine =
+        "(define (domain l) (:predicates (p ?x) (q ?1 ?2 ?3 ?4 ?5 ?6 ?7 ?8 ?9)) (:action go))";
+    let none = numbered(
+        alloc,
+        "(define (problem l1) (:domain l) (:objects",
+        [" o", ""],
+        1001,
+        ") (:init) (:goal ()))",
+    )?;
+    let objects = numbered(
+        alloc,
+        "(define (problem l1) (:domain l) (:objects",
+        [" o", ""],
+        1001,
+        ") (:init",
+    )?;
+    let all = numbered(
+        alloc,
+        objects.as_str(),
+        [" (p o", ")"],
+        1001,
+        ") (:goal ()))",
+    )?;
+    let texts = [domain, none.as_str(), domain, all.as_str(), "(go)"];
+    assert_row(
+        &rt,
+        alloc,
+        &(PATCH, texts, 7, None, "mre: objects 1001 limit 1000\n"),
+    )?;
+    let texts = [nine, none.as_str(), domain, all.as_str(), "(go)"];
+    assert_row(
+        &rt,
+        alloc,
+        &(PATCH, texts, 7, None, "mre: parameters 9 limit 8\n"),
+    )?;
+    let texts = [nine, none.as_str(), domain, all.as_str(), "go"];
+    assert_row(
+        &rt,
+        alloc,
+        &(PATCH, texts, 5, None, "mre: plan:1:1: form\n"),
+    )
+}
+
+/// The user knows 257 facts more, and the plan has one step too many, in none of which it makes the goal true.
+#[test]
+fn differences_come_before_steps_and_these_before_the_plan(rt: HostRuntime) -> Result<(), Fail> {
+    let alloc = rt.alloc();
+    let domain = numbered(
+        alloc,
+        "(define (domain l) (:predicates (g)",
+        [" (f", ")"],
+        257,
+        ") (:action go))",
+    )?;
+    let all = numbered(
+        alloc,
+        "(define (problem l1) (:domain l) (:init",
+        [" (f", ")"],
+        257,
+        ") (:goal (g)))",
+    )?;
+    let none = "(define (problem l1) (:domain l) (:init) (:goal (g)))";
+    let long = numbered(alloc, "", ["(go) ; ", "\n"], 10_001, "")?;
+    let texts = [
+        domain.as_str(),
+        none,
+        domain.as_str(),
+        all.as_str(),
+        long.as_str(),
+    ];
+    assert_row(
+        &rt,
+        alloc,
+        &(PATCH, texts, 7, None, "mre: differences 257 limit 256\n"),
+    )?;
+    let texts = [domain.as_str(), none, domain.as_str(), none, long.as_str()];
+    assert_row(
+        &rt,
+        alloc,
+        &(PATCH, texts, 7, None, "mre: plan steps 10001 limit 10000\n"),
+    )?;
+    let texts = [domain.as_str(), none, domain.as_str(), none, "(go)"];
+    assert_row(
+        &rt,
+        alloc,
+        &(PATCH, texts, 10, None, "mre: plan ends without (g)\n"),
     )
 }

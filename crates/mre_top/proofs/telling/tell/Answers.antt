@@ -3,6 +3,7 @@ use Rattle.std.specs.List.{concat}
 use Rattle.std.specs.Io.KnownBytes.{Appends}
 use Rattle.mre_top.specs.Refusals.{memory_line}
 use Rattle.mre_top.specs.Telling.{first_told}
+use Rattle.mre_top.proofs.SomeLines.{some_lines}
 use Rattle.mre_top.proofs.Written.{Appends-nothing, written_behind}
 use Rattle.mre_top.proofs.telling.tell.Goals as goal
 
@@ -17,7 +18,7 @@ returns-in_default-lines-clause-told g c =
       told.status,
       (
         0,
-        omega arith,
+        some_lines c.args.files.now c.args.refusal.now,
         written_behind sound sound (λ s. s) [] memory_line old old (g.E.Sink.written new) before before (g.E.Sink.faults new) (omega arith) (Appends-nothing old old refl) told.told,
       ),
     )

@@ -1,38 +1,55 @@
-use Rattle.std.proofs.Common.{map, sym, subst, refl, arith, [], Err, ap, ◌∙◌, inl}
-use Rattle.std.specs.String.{string_bytes}
-use Rattle.mre_top.specs.Endings.{Leaves}
-use Rattle.mre_top.specs.Telling.{IsTold}
-use Rattle.mre_top.specs.Reads.{IsMissingWhereFailed}
+use Rattle.std.proofs.Common.{◌≡◌, ◌⊎◌, Option, sym, subst, refl, arith, [], Err, ap, ◌∙◌, inl, inr}
+use Rattle.std.specs.Prelude.{IsNone}
+use Rattle.mre_words.specs.declared.request.Request.{Request}
+use Rattle.mre_words.specs.Requests.{names_in}
+use Rattle.mre_top.specs.declared.refusal.Refusal.{Refusal}
 use Rattle.mre_top.specs.declared.refusal.Refusal.TheVariants.{Usage, NoMemory}
+use Rattle.mre_top.specs.Endings.{IsRefused, Leaves}
+use Rattle.mre_top.specs.Explains.{IsCarriedOut}
+use Rattle.mre_top.specs.Reads.{IsMissingWhereFailed}
+use Rattle.mre_top.specs.Telling.{IsTold}
 use Rattle.mre_top.proofs.Calls.{asked_then-nothing}
-use Rattle.mre_top.proofs.Endings.{if_none, if_none_weaker}
-use Rattle.mre_top.proofs.Requested.{names_of-requested, IsRefused-served}
 use Rattle.mre_top.proofs.top.run.Goals as goal
 
-pub returns-in-Ok-clause-refused : goal.returns-in-Ok-clause-refused
-returns-in-Ok-clause-refused g c =
-    let words = map string_bytes c.args.words.now in
-    let named = names_of-requested words c.in-Ok.request c.in-Ok.ensures.ok in
-    if_none_weaker c.answer_request.result.answer _ _ c.answer_request.ensures.refused
-    (λ served. (
-      served.0,
-      IsRefused-served words c.in-Ok.request.files (g.H.Shelf.held c.args.shelf.now) (g.H.Shelf.asked c.args.shelf.now) (g.H.Shelf.asked c.answer_request.new.shelf) served.0 named served.1,
-      subst (λ names. Leaves g.S.Sink.written names (g.H.Shelf.held c.args.shelf.now) c.args.out.now c.answer_request.new.out served.0) (sym named) served.2,
-      subst (λ names. IsTold (g.E.Sink.is_sound c.args.faults.now) names served.0 c.answer_request.result.status (g.E.Sink.written c.args.faults.now) (g.E.Sink.written c.answer_request.new.faults) (g.E.Sink.faults c.args.faults.now) (g.E.Sink.faults c.answer_request.new.faults)) (sym named) served.3,
-      λ sound. subst (λ names. IsMissingWhereFailed (g.H.Shelf.held c.args.shelf.now) names served.0) (sym named) (served.4 sound),
-    ))
+pub returns-in-Ok-clause-ended : goal.returns-in-Ok-clause-ended
+returns-in-Ok-clause-ended g c =
+    let shelf = c.args.shelf.now in
+    let out = c.args.out.now in
+    let faults = c.args.faults.now in
+    let shelf_new = c.answer_request.new.shelf in
+    let out_new = c.answer_request.new.out in
+    let faults_new = c.answer_request.new.faults in
+    let outcome = c.answer_request.result in
+    let Ended : Option Request → Type 0 = λ asks.
+    ((outcome.status ≡ 0)
+    × IsCarriedOut asks (g.H.Shelf.held shelf) (g.H.Shelf.asked shelf) (g.H.Shelf.asked shelf_new) (g.S.Sink.written out) (g.S.Sink.written out_new) outcome.answer
+    × (faults_new ≡ faults))
+    ⊎ (IsNone outcome.answer × (refusal : Refusal)
+    × IsRefused asks (g.H.Shelf.held shelf) (g.H.Shelf.asked shelf) (g.H.Shelf.asked shelf_new) refusal
+    × Leaves g.S.Sink.written g.S.Sink.faults g.S.Sink.is_sound asks (g.H.Shelf.held shelf) out out_new refusal
+    × IsTold (g.E.Sink.is_sound faults) (names_in asks) refusal outcome.status (g.E.Sink.written faults) (g.E.Sink.written faults_new) (g.E.Sink.faults faults) (g.E.Sink.faults faults_new)
+    × (g.H.Shelf.is_sound shelf → IsMissingWhereFailed (g.H.Shelf.held shelf) (names_in asks) refusal)) in
+    subst Ended (sym c.in-Ok.ensures.ok) c.answer_request.ensures.ended
 
-pub returns-in-Err-NoRequest-clause-refused : goal.returns-in-Err-NoRequest-clause-refused
-returns-in-Err-NoRequest-clause-refused g c =
-    if_none c.refuse-in-Err-NoRequest.result.answer _ (
+pub returns-in-Err-NoRequest-clause-ended : goal.returns-in-Err-NoRequest-clause-ended
+returns-in-Err-NoRequest-clause-ended g c =
+    let none = c.read_words.ensures.no_request.0 (c.in-Err-NoRequest.is ∙ ap Err c.in-Err-NoRequest.field-0-is) in
+    inr (
+      c.refuse-in-Err-NoRequest.ensures.answer,
       Usage,
-      record { calls = []; cause = (c.read_words.ensures.no_request (c.in-Err-NoRequest.is ∙ ap Err c.in-Err-NoRequest.field-0-is), refl); asked = asked_then-nothing (g.H.Shelf.asked c.args.shelf.now) },
+      record { calls = []; cause = (none, refl); asked = asked_then-nothing (g.H.Shelf.asked c.args.shelf.now) },
       refl,
       c.refuse-in-Err-NoRequest.ensures.told,
       λ sound. tt,
     )
 
-pub returns-in-Err-NoMemory-clause-refused : goal.returns-in-Err-NoMemory-clause-refused
-returns-in-Err-NoMemory-clause-refused g c =
-    if_none c.refuse-in-Err-NoMemory-2.result.answer _
-    (NoMemory, record { calls = []; cause = (0, omega arith, refl); asked = asked_then-nothing (g.H.Shelf.asked c.args.shelf.now) }, inl refl, c.refuse-in-Err-NoMemory-2.ensures.told, λ sound. tt)
+pub returns-in-Err-NoMemory-clause-ended : goal.returns-in-Err-NoMemory-clause-ended
+returns-in-Err-NoMemory-clause-ended g c =
+    inr (
+      c.refuse-in-Err-NoMemory-2.ensures.answer,
+      NoMemory,
+      record { calls = []; cause = (0, omega arith, refl); asked = asked_then-nothing (g.H.Shelf.asked c.args.shelf.now) },
+      inl refl,
+      c.refuse-in-Err-NoMemory-2.ensures.told,
+      λ sound. tt,
+    )

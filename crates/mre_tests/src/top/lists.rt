@@ -1,0 +1,201 @@
+use super::making::{DIFF, PATCH, PLAN_PATCH, Row, assert_rows};
+use super::texts::*;
+use std::test::Fail;
+
+/// A request for all differences doesn't read the plan.
+const LISTED: [Row<'static>; 27] = [
+    (
+        DIFF,
+        [LAND, LAND_P, LAND, LAND_P, ""],
+        0,
+        None,
+        "differences 0\n",
+    ),
+    (
+        DIFF,
+        [LAND, LAND_P, LAND_LEAP, LAND_Q, ""],
+        0,
+        None,
+        "differences 3\n1 initially (p) is true\n2 initially (q) is not true\n3 action jump needs (q)\n",
+    ),
+    (
+        DIFF,
+        [TYPED, TYPED_C, TYPED_IDLE, TYPED_C, ""],
+        0,
+        None,
+        "differences 1\n1 action go makes (k ?1) false\n",
+    ),
+    (
+        DIFF,
+        [RAIL, RAIL_PR, RAIL_FREE, WALK_P, "("],
+        0,
+        None,
+        "differences 3\n1 initially (r) is true\n2 action jump needs (r)\n3 action jump costs 3, not 1\n",
+    ),
+    (
+        PATCH,
+        [RAIL, RAIL_PR, RAIL_FREE, WALK_P, WALK_PLAN],
+        0,
+        None,
+        "patch 3 of 3\n1 initially (r) is true\n2 action jump needs (r)\n3 action jump costs 3, not 1\n",
+    ),
+    (
+        PLAN_PATCH,
+        [RAIL, RAIL_PR, RAIL_FREE, WALK_P, WALK_PLAN],
+        0,
+        None,
+        "plan-patch 0 of 3\n",
+    ),
+    (
+        DIFF,
+        [GATE, RAIL_PR, GATE_FREE, WALK_P, ""],
+        0,
+        None,
+        "differences 4\n1 initially (r) is true\n2 action open needs (r)\n3 action jump costs 3, not 1\n4 action hop costs 3, not 1\n",
+    ),
+    (
+        DIFF,
+        [WALK, WALK_P, WALK, WALK_PQ, ""],
+        0,
+        None,
+        "differences 1\n1 initially (q) is not true\n",
+    ),
+    (
+        DIFF,
+        [WALK, WALK_P, WALK_HUT, WALK_HUT_GOAL, ""],
+        0,
+        None,
+        "differences 1\n1 the goal does not have (h)\n",
+    ),
+    (
+        DIFF,
+        [WALK, WALK_P, WALK_ONLY, WALK_PQ, ""],
+        0,
+        None,
+        "differences 2\n1 initially (q) is not true\n2 action jump exists\n",
+    ),
+    (
+        PATCH,
+        [WALK_ONLY, WALK_PQ, WALK, WALK_PQ, WALK_PLAN],
+        0,
+        None,
+        "patch 1 of 1\n1 action jump does not exist\n",
+    ),
+    (
+        PLAN_PATCH,
+        [WALK, WALK_P, WALK_JUMP_ONLY, WALK_P, WALK_PLAN],
+        0,
+        None,
+        "plan-patch 1 of 1\n1 action walk exists\n",
+    ),
+    (
+        PATCH,
+        [WALK, WALK_PQ, WALK, WALK_P, WALK_PLAN],
+        0,
+        None,
+        "patch 1 of 1\n1 initially (q) is true\n",
+    ),
+    (
+        PLAN_PATCH,
+        [WALK, WALK_STAY, WALK, WALK_EACH_ONE, ""],
+        0,
+        None,
+        "plan-patch 0 of 3\n",
+    ),
+    (
+        DIFF,
+        [KINDS, KINDS_A, KINDS_OTHER, KINDS_C, ""],
+        0,
+        None,
+        "differences 12\n1 initially (a) is true\n2 initially (c) is not true\n3 the goal does not have (a)\n4 the goal has (b)\n5 action new exists\n6 action both needs (a)\n7 action both does not need (b)\n8 action both does not make (a) true\n9 action both makes (b) true\n10 action both does not make (b) false\n11 action both makes (c) false\n12 action old does not exist\n",
+    ),
+    (
+        PATCH,
+        [KINDS, KINDS_A, KINDS_OTHER, KINDS_C, KINDS_PLAN],
+        0,
+        None,
+        "patch 12 of 12\n1 initially (a) is true\n2 initially (c) is not true\n3 the goal does not have (a)\n4 the goal has (b)\n5 action new exists\n6 action both needs (a)\n7 action both does not need (b)\n8 action both does not make (a) true\n9 action both makes (b) true\n10 action both does not make (b) false\n11 action both makes (c) false\n12 action old does not exist\n",
+    ),
+    (
+        PLAN_PATCH,
+        [KINDS, KINDS_A, KINDS_OTHER, KINDS_C, KINDS_PLAN],
+        0,
+        None,
+        "plan-patch 6 of 12\n6 action both needs (a)\n7 action both does not need (b)\n8 action both does not make (a) true\n9 action both makes (b) true\n10 action both does not make (b) false\n11 action both makes (c) false\n",
+    ),
+    (
+        PLAN_PATCH,
+        [KINDS, KINDS_A, KINDS_OTHER, KINDS_C, "(new)\n(both)\n"],
+        0,
+        None,
+        "plan-patch 7 of 12\n5 action new exists\n6 action both needs (a)\n7 action both does not need (b)\n8 action both does not make (a) true\n9 action both makes (b) true\n10 action both does not make (b) false\n11 action both makes (c) false\n",
+    ),
+    (
+        DIFF,
+        [ROADS, ROADS_2_9, ROADS_FOUR, ROADS_2_5, ""],
+        0,
+        None,
+        "differences 2\n1 action go costs (road ?1 ?2), not 4\n2 the value of (road b c) is 9, not 5\n",
+    ),
+    (
+        DIFF,
+        [ROADS, ROADS_2_9, ROADS, ROADS_2, ""],
+        0,
+        None,
+        "differences 1\n1 the value of (road b c) is 9, not none\n",
+    ),
+    (
+        DIFF,
+        [ROADS, ROADS_9, ROADS, ROADS_2_9, ""],
+        0,
+        None,
+        "differences 1\n1 the value of (road a b) is none, not 2\n",
+    ),
+    (
+        PATCH,
+        [ROADS, ROADS_2_9, ROADS_FOUR, ROADS_2_5, ROADS_GO],
+        0,
+        None,
+        "patch 2 of 2\n1 action go costs (road ?1 ?2), not 4\n2 the value of (road b c) is 9, not 5\n",
+    ),
+    (
+        PLAN_PATCH,
+        [ROADS, ROADS_2_9, ROADS_FOUR, ROADS_2_5, ROADS_GO],
+        0,
+        None,
+        "plan-patch 1 of 2\n1 action go costs (road ?1 ?2), not 4\n",
+    ),
+    (
+        PLAN_PATCH,
+        [ROADS, ROADS_2_9, ROADS_FOUR, ROADS_2_5, ROADS_RIDE],
+        0,
+        None,
+        "plan-patch 0 of 2\n",
+    ),
+    (
+        DIFF,
+        [TRUCK, TRUCK_MONDAY, TRUCK_SLOW, TRUCK_SHORTCUT, ""],
+        0,
+        None,
+        "differences 2\n1 initially (road north mill) is not true\n2 action unload costs 1, not 2\n",
+    ),
+    (
+        PATCH,
+        [TRUCK, TRUCK_MONDAY, TRUCK_SLOW, TRUCK_SHORTCUT, TRUCK_PLAN],
+        0,
+        None,
+        "patch 2 of 2\n1 initially (road north mill) is not true\n2 action unload costs 1, not 2\n",
+    ),
+    (
+        PLAN_PATCH,
+        [TRUCK, TRUCK_MONDAY, TRUCK_SLOW, TRUCK_SHORTCUT, TRUCK_PLAN],
+        0,
+        None,
+        "plan-patch 1 of 2\n2 action unload costs 1, not 2\n",
+    ),
+];
+
+#[test]
+fn lists_have_the_chosen_differences(rt: HostRuntime) -> Result<(), Fail> {
+    assert_rows(&rt, rt.alloc(), &LISTED)
+}
