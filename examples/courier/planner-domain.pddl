@@ -1,0 +1,11 @@
+; A courier rides along roads. What a ride costs is the length of its road.
+(define (domain courier)
+  (:requirements :strips :typing :action-costs)
+  (:types place)
+  (:predicates (at ?p - place) (road ?from ?to - place))
+  (:functions (total-cost) - number (length ?from ?to - place) - number)
+  (:action ride
+    :parameters (?from ?to - place)
+    :precondition (and (at ?from) (road ?from ?to))
+    :effect (and (not (at ?from)) (at ?to)
+                 (increase (total-cost) (length ?from ?to)))))
