@@ -1,5 +1,4 @@
 ghost use Rattle.std.specs.Prelude.{◌≡◌, ◌<◌, [], ◌∷◌, length, IfOk};
-ghost use Rattle.std.specs.String.{string_bytes};
 ghost use Rattle.mre_top.specs.Refusals.{status_of, lines_of, IsOfFile};
 ghost use Rattle.request_answers.specs.Lines.{name_at};
 

@@ -1,5 +1,5 @@
 ghost use Rattle.std.specs.Prelude.{ℕ, ◌≡◌, ◌≢◌, ◌⊎◌, ◌↔◌, ◌≤◌, [], length, map, All};
-ghost use Rattle.std.specs.Prelude.{Some, None, IsSome, IsNone, IfSome, IfNone, IfOk, IfErr, IsTrue};
+ghost use Rattle.std.specs.Prelude.{Some, None, IsSome, IsNone, IfOk, IfErr, IsTrue};
 ghost use Rattle.std.specs.Prelude.{List as ListOf};
 ghost use Rattle.std.specs.String.{string_bytes};
 ghost use Rattle.mre_outside.specs.Faults.{Rose};

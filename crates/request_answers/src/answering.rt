@@ -1,4 +1,4 @@
-ghost use Rattle.std.specs.Prelude.{◌≡◌, ◌≤◌, length, map, All, IfOk, IfErr, IfNone, OnOk};
+ghost use Rattle.std.specs.Prelude.{◌≡◌, length, map, All, IfOk, IfErr, IfNone, OnOk};
 ghost use Rattle.std.specs.List.{concat};
 ghost use Rattle.model_kit.specs.Vocabulary.{IsGroundAction};
 ghost use Rattle.model_kit.specs.Places.{meaning};

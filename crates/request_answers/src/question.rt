@@ -1,4 +1,4 @@
-ghost use Rattle.std.specs.Prelude.{◌≡◌, ◌≤◌, ◌<◌, ◌^◌, [], length, map, All, IfOk, IfErr};
+ghost use Rattle.std.specs.Prelude.{◌≡◌, ◌<◌, ◌^◌, [], length, map, IfOk, IfErr};
 ghost use Rattle.mre_words.specs.Requests.{count_of};
 ghost use Rattle.pddl_read.specs.Texts.{AreFew};
 ghost use Rattle.request_answers.specs.Texts.{AreShort, AreModels};

@@ -1,4 +1,4 @@
-ghost use Rattle.std.specs.Prelude.{ℕ, ◌≡◌, ◌≤◌, ◌<◌, ◌^◌, [], length, map, All, IfOk, IfErr};
+ghost use Rattle.std.specs.Prelude.{◌≡◌, ◌≤◌, ◌<◌, ◌^◌, [], length, map, All, IfOk, IfErr};
 ghost use Rattle.model_kit.specs.Vocabulary.{IsGroundAction};
 ghost use Rattle.mre_words.specs.Requests.{count_of};
 ghost use Rattle.pddl_read.specs.Texts.{IsDomainText, IsProblemText, IsDomainFault, IsProblemFault, AreFew};
