@@ -1,4 +1,4 @@
-use super::making::{DIFF, EXPLAIN, PATCH, PLAN_PATCH, Row, assert_row, assert_rows, numbered};
+use super::making::{DIFF, EXPLAIN, PATCH, PLAN_PATCH, Row, assert_ends, assert_rows, numbered};
 use std::test::Fail;
 
 const NO_FACTS: &str = "(define (problem l1) (:domain l) (:init) (:goal ()))";
@@ -94,25 +94,27 @@ fn at_most_1000_objects(rt: HostRuntime) -> Result<(), Fail> {
     let tail = ") (:init) (:goal ()))";
     let full = numbered(alloc, head, [" o", ""], 400, tail)?;
     let more = numbered(alloc, head, [" o", ""], 401, tail)?;
-    let texts = [
-        domain.as_str(),
-        full.as_str(),
-        domain.as_str(),
-        full.as_str(),
-        "",
-    ];
-    assert_row(&rt, alloc, &(DIFF, texts, 0, None, "differences 0\n"))?;
-    let texts = [
-        domain.as_str(),
-        more.as_str(),
-        domain.as_str(),
-        more.as_str(),
-        "",
-    ];
-    assert_row(
+    assert_ends(
         &rt,
         alloc,
-        &(PATCH, texts, 7, None, "mre: objects 1001 limit 1000\n"),
+        DIFF,
+        domain.as_str(),
+        full.as_str(),
+        domain.as_str(),
+        full.as_str(),
+        "",
+        (0, None, "differences 0\n"),
+    )?;
+    assert_ends(
+        &rt,
+        alloc,
+        PATCH,
+        domain.as_str(),
+        more.as_str(),
+        domain.as_str(),
+        more.as_str(),
+        "",
+        (7, None, "mre: objects 1001 limit 1000\n"),
     )
 }
 
@@ -133,34 +135,38 @@ fn at_most_256_differences(rt: HostRuntime) -> Result<(), Fail> {
     let full = numbered(alloc, head, facts, 256, tail)?;
     let more = numbered(alloc, head, facts, 257, tail)?;
     let none = "(define (problem l1) (:domain l) (:init) (:goal (g)))";
-    let texts = [
+    assert_ends(
+        &rt,
+        alloc,
+        PLAN_PATCH,
         domain.as_str(),
         none,
         domain.as_str(),
         full.as_str(),
         "(go)",
-    ];
-    assert_row(
+        (0, None, "plan-patch 0 of 256\n"),
+    )?;
+    assert_ends(
         &rt,
         alloc,
-        &(PLAN_PATCH, texts, 0, None, "plan-patch 0 of 256\n"),
-    )?;
-    let texts = [
+        DIFF,
         domain.as_str(),
         none,
         domain.as_str(),
         more.as_str(),
         "(go)",
-    ];
-    assert_row(
-        &rt,
-        alloc,
-        &(DIFF, texts, 7, None, "mre: differences 257 limit 256\n"),
+        (7, None, "mre: differences 257 limit 256\n"),
     )?;
-    assert_row(
+    assert_ends(
         &rt,
         alloc,
-        &(EXPLAIN, texts, 7, None, "mre: differences 257 limit 256\n"),
+        EXPLAIN,
+        domain.as_str(),
+        none,
+        domain.as_str(),
+        more.as_str(),
+        "(go)",
+        (7, None, "mre: differences 257 limit 256\n"),
     )
 }
 
@@ -172,30 +178,48 @@ fn at_most_10000_steps(rt: HostRuntime) -> Result<(), Fail> {
     let problem = "(define (problem l1) (:domain l) (:init) (:goal (g)))";
     let full = numbered(alloc, "", ["(go) ; ", "\n"], 10_000, "")?;
     let more = numbered(alloc, "", ["(go) ; ", "\n"], 10_001, "")?;
-    let texts = [domain, problem, domain, problem, full.as_str()];
-    assert_row(&rt, alloc, &(PATCH, texts, 0, None, "patch 0 of 0\n"))?;
-    let texts = [domain, problem, domain, problem, more.as_str()];
-    assert_row(
+    assert_ends(
         &rt,
         alloc,
-        &(
-            PLAN_PATCH,
-            texts,
-            7,
-            None,
-            "mre: plan steps 10001 limit 10000\n",
-        ),
+        PATCH,
+        domain,
+        problem,
+        domain,
+        problem,
+        full.as_str(),
+        (0, None, "patch 0 of 0\n"),
     )?;
-    assert_row(
+    assert_ends(
         &rt,
         alloc,
-        &(
-            EXPLAIN,
-            texts,
-            7,
-            None,
-            "mre: plan steps 10001 limit 10000\n",
-        ),
+        PLAN_PATCH,
+        domain,
+        problem,
+        domain,
+        problem,
+        more.as_str(),
+        (7, None, "mre: plan steps 10001 limit 10000\n"),
     )?;
-    assert_row(&rt, alloc, &(DIFF, texts, 0, None, "differences 0\n"))
+    assert_ends(
+        &rt,
+        alloc,
+        EXPLAIN,
+        domain,
+        problem,
+        domain,
+        problem,
+        more.as_str(),
+        (7, None, "mre: plan steps 10001 limit 10000\n"),
+    )?;
+    assert_ends(
+        &rt,
+        alloc,
+        DIFF,
+        domain,
+        problem,
+        domain,
+        problem,
+        more.as_str(),
+        (0, None, "differences 0\n"),
+    )
 }

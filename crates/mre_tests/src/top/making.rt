@@ -113,6 +113,26 @@ pub fn assert_row(rt: &impl Abort, alloc: Global, row: &Row<'_>) -> Result<(), F
     Ok(())
 }
 
+/// One call over these five contents ends so: the status, how many differences the answer tells, and what is written.
+pub fn assert_ends<'a>(
+    rt: &impl Abort,
+    alloc: Global,
+    words: &'a str,
+    pd: &'a str,
+    pp: &'a str,
+    ud: &'a str,
+    up: &'a str,
+    plan: &'a str,
+    ends: (u8, Option<u32>, &'a str),
+) -> Result<(), Fail> {
+    let (status, told, written) = ends;
+    assert_row(
+        rt,
+        alloc,
+        &(words, [pd, pp, ud, up, plan], status, told, written),
+    )
+}
+
 pub fn assert_rows(rt: &impl Abort, alloc: Global, rows: &[Row<'_>]) -> Result<(), Fail> {
     for row in rows {
         assert_row(rt, alloc, row)?;

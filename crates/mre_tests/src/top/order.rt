@@ -1,4 +1,4 @@
-use super::making::{EXPLAIN, PATCH, assert_row, call, numbered, shelf};
+use super::making::{EXPLAIN, PATCH, assert_ends, call, numbered, shelf};
 use super::reads::too_long;
 use super::texts::LAND;
 use std::test::Fail;
@@ -15,17 +15,16 @@ fn reads_come_before_texts(rt: HostRuntime) -> Result<(), Fail> {
         "mre: plan: read failed\n".as_bytes()
     );
     let text = too_long(alloc)?;
-    let texts = ["(", LAND, text.as_str(), text.as_str(), "("];
-    assert_row(
+    assert_ends(
         &rt,
         alloc,
-        &(
-            EXPLAIN,
-            texts,
-            7,
-            None,
-            "mre: bytes of ud 4194305 limit 4194304\n",
-        ),
+        EXPLAIN,
+        "(",
+        LAND,
+        text.as_str(),
+        text.as_str(),
+        "(",
+        (7, None, "mre: bytes of ud 4194305 limit 4194304\n"),
     )
 }
 
@@ -57,23 +56,38 @@ fn texts_come_before_parameters_and_these_before_objects(rt: HostRuntime) -> Res
         1001,
         ") (:goal ()))",
     )?;
-    let texts = [domain, none.as_str(), domain, all.as_str(), "(go)"];
-    assert_row(
+    assert_ends(
         &rt,
         alloc,
-        &(PATCH, texts, 7, None, "mre: objects 1001 limit 1000\n"),
+        PATCH,
+        domain,
+        none.as_str(),
+        domain,
+        all.as_str(),
+        "(go)",
+        (7, None, "mre: objects 1001 limit 1000\n"),
     )?;
-    let texts = [nine, none.as_str(), domain, all.as_str(), "(go)"];
-    assert_row(
+    assert_ends(
         &rt,
         alloc,
-        &(PATCH, texts, 7, None, "mre: parameters 9 limit 8\n"),
+        PATCH,
+        nine,
+        none.as_str(),
+        domain,
+        all.as_str(),
+        "(go)",
+        (7, None, "mre: parameters 9 limit 8\n"),
     )?;
-    let texts = [nine, none.as_str(), domain, all.as_str(), "go"];
-    assert_row(
+    assert_ends(
         &rt,
         alloc,
-        &(PATCH, texts, 5, None, "mre: plan:1:1: form\n"),
+        PATCH,
+        nine,
+        none.as_str(),
+        domain,
+        all.as_str(),
+        "go",
+        (5, None, "mre: plan:1:1: form\n"),
     )
 }
 
@@ -97,28 +111,37 @@ fn differences_come_before_steps_and_these_before_the_plan(rt: HostRuntime) -> R
     )?;
     let none = "(define (problem l1) (:domain l) (:init) (:goal (g)))";
     let long = numbered(alloc, "", ["(go) ; ", "\n"], 10_001, "")?;
-    let texts = [
+    assert_ends(
+        &rt,
+        alloc,
+        PATCH,
         domain.as_str(),
         none,
         domain.as_str(),
         all.as_str(),
         long.as_str(),
-    ];
-    assert_row(
-        &rt,
-        alloc,
-        &(PATCH, texts, 7, None, "mre: differences 257 limit 256\n"),
+        (7, None, "mre: differences 257 limit 256\n"),
     )?;
-    let texts = [domain.as_str(), none, domain.as_str(), none, long.as_str()];
-    assert_row(
+    assert_ends(
         &rt,
         alloc,
-        &(PATCH, texts, 7, None, "mre: plan steps 10001 limit 10000\n"),
+        PATCH,
+        domain.as_str(),
+        none,
+        domain.as_str(),
+        none,
+        long.as_str(),
+        (7, None, "mre: plan steps 10001 limit 10000\n"),
     )?;
-    let texts = [domain.as_str(), none, domain.as_str(), none, "(go)"];
-    assert_row(
+    assert_ends(
         &rt,
         alloc,
-        &(PATCH, texts, 10, None, "mre: plan ends without (g)\n"),
+        PATCH,
+        domain.as_str(),
+        none,
+        domain.as_str(),
+        none,
+        "(go)",
+        (10, None, "mre: plan ends without (g)\n"),
     )
 }

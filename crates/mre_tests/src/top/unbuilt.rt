@@ -1,4 +1,4 @@
-use super::making::{EXPLAIN, Row, assert_row, assert_rows, numbered};
+use super::making::{EXPLAIN, Row, assert_ends, assert_rows, numbered};
 use super::texts::*;
 use std::test::Fail;
 
@@ -92,29 +92,38 @@ fn seventeen_differences_are_not_explained(rt: HostRuntime) -> Result<(), Fail> 
         ") (:goal (g)))",
     )?;
     let none = "(define (problem w1) (:domain w) (:init) (:goal (g)))";
-    let texts = [domain.as_str(), none, domain.as_str(), all.as_str(), "(go)"];
-    assert_row(
+    assert_ends(
         &rt,
         alloc,
-        &(EXPLAIN, texts, 5, None, "mre: plan:1:1: unbuilt\n"),
+        EXPLAIN,
+        domain.as_str(),
+        none,
+        domain.as_str(),
+        all.as_str(),
+        "(go)",
+        (5, None, "mre: plan:1:1: unbuilt\n"),
     )?;
-    let texts = [
+    assert_ends(
+        &rt,
+        alloc,
+        EXPLAIN,
         domain.as_str(),
         none,
         domain.as_str(),
         all.as_str(),
         "(go)\n(go)\n",
-    ];
-    assert_row(
-        &rt,
-        alloc,
-        &(EXPLAIN, texts, 5, None, "mre: plan:1:1: unbuilt\n"),
+        (5, None, "mre: plan:1:1: unbuilt\n"),
     )?;
-    let texts = [domain.as_str(), none, wide.as_str(), all.as_str(), "(go)"];
-    assert_row(
+    assert_ends(
         &rt,
         alloc,
-        &(EXPLAIN, texts, 5, None, "mre: ud:1:1: unbuilt\n"),
+        EXPLAIN,
+        domain.as_str(),
+        none,
+        wide.as_str(),
+        all.as_str(),
+        "(go)",
+        (5, None, "mre: ud:1:1: unbuilt\n"),
     )
 }
 
@@ -132,28 +141,48 @@ fn at_most_64_predicates_and_64_actions_are_explained(rt: HostRuntime) -> Result
     let all = numbered(alloc, head, actions, 64, ")")?;
     let many = numbered(alloc, head, actions, 65, ")")?;
     let problem = "(define (problem w1) (:domain w) (:init) (:goal (g)))";
-    let texts = [full.as_str(), problem, full.as_str(), problem, "(a0)"];
-    assert_row(
+    assert_ends(
         &rt,
         alloc,
-        &(EXPLAIN, texts, 0, Some(0), "mce 0 of 0\ncost 1\n"),
+        EXPLAIN,
+        full.as_str(),
+        problem,
+        full.as_str(),
+        problem,
+        "(a0)",
+        (0, Some(0), "mce 0 of 0\ncost 1\n"),
     )?;
-    let texts = [all.as_str(), problem, all.as_str(), problem, "(a63)"];
-    assert_row(
+    assert_ends(
         &rt,
         alloc,
-        &(EXPLAIN, texts, 0, Some(0), "mce 0 of 0\ncost 1\n"),
+        EXPLAIN,
+        all.as_str(),
+        problem,
+        all.as_str(),
+        problem,
+        "(a63)",
+        (0, Some(0), "mce 0 of 0\ncost 1\n"),
     )?;
-    let texts = [full.as_str(), problem, more.as_str(), problem, "(a0)"];
-    assert_row(
+    assert_ends(
         &rt,
         alloc,
-        &(EXPLAIN, texts, 5, None, "mre: ud:1:1: unbuilt\n"),
+        EXPLAIN,
+        full.as_str(),
+        problem,
+        more.as_str(),
+        problem,
+        "(a0)",
+        (5, None, "mre: ud:1:1: unbuilt\n"),
     )?;
-    let texts = [many.as_str(), problem, many.as_str(), problem, "(a0)"];
-    assert_row(
+    assert_ends(
         &rt,
         alloc,
-        &(EXPLAIN, texts, 5, None, "mre: pd:1:1: unbuilt\n"),
+        EXPLAIN,
+        many.as_str(),
+        problem,
+        many.as_str(),
+        problem,
+        "(a0)",
+        (5, None, "mre: pd:1:1: unbuilt\n"),
     )
 }
