@@ -1,1 +1,5 @@
+pub mod LineLemmas
+pub mod ListLemmas
+pub mod LookLemmas
 pub mod ProofLemmas
+pub mod RoomLemmas

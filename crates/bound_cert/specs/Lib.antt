@@ -1,1 +1,4 @@
+pub mod Formed
+pub mod Lines
 pub mod Proven
+pub mod Rooms
