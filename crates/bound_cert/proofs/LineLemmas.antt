@@ -1,13 +1,13 @@
 -- Lines of a bound proof: what keeps every rule breaks none, a proof's lines all keep them, and where the first fault is.
-use Rattle.std.proofs.Common.{◌≡◌, ℕ, suc, ◌+◌, ◌≤◌, ◌<◌, Bool, true, false, List, [], ◌∷◌, ◌++◌, length, take, drop, map, Some, All, refl, sym, ap, ◌∙◌, arith, subst, ◌⊎◌, inl, inr, append_assoc, Contains, slice_get}
-use Rattle.std.proofs.lemmas.Bool.{true≢false, false≢true}
+use Rattle.std.proofs.Common.{◌≡◌, ℕ, suc, ◌+◌, ◌≤◌, ◌<◌, true, false, List, [], ◌∷◌, ◌++◌, length, take, drop, Some, All, refl, sym, ap, ◌∙◌, arith, subst, ◌⊎◌, inl, inr, append_assoc, slice_get}
+use Rattle.std.proofs.lemmas.Bool.{true≢false}
 use Rattle.std.proofs.lemmas.List.{append-nil, length-append, length-map, length-take-le, map-append}
 use Rattle.std.proofs.lemmas.Option.{slice_get_within}
-use Rattle.std.proofs.lemmas.List.Elements.{All-nil, All-cons, All-head, All-tail, All-append, All-push, All-weaker, All-contains, All-map}
+use Rattle.std.proofs.lemmas.List.Elements.{All-nil, All-cons, All-head, All-tail, All-append, All-push, All-weaker, All-map}
 use Rattle.std.specs.FinSet as set
-use Rattle.task_kit.specs.Tasks.{Numbers, TaskMeaning, price, applies, after}
-use Rattle.task_kit.specs.Bounds.{IsExpanded, IsKnownWithin, NumberedState}
-use Rattle.task_kit.specs.Cuts.{most, CutMeaning, counts, weight_of, weights, IsCutOf, AreLawful}
+use Rattle.task_kit.specs.Tasks.{Numbers, TaskMeaning, price}
+use Rattle.task_kit.specs.Bounds.{NumberedState}
+use Rattle.task_kit.specs.Cuts.{most, CutMeaning, counts, weight_of, weights, IsCutOf}
 use Rattle.task_kit.specs.Kept.{cut_meaning, cuts_meaning}
 use Rattle.task_kit.specs.declared.cut.Cut.{Cut}
 use Rattle.bound_cert.specs.declared.proof.BoundState.{BoundState}
@@ -18,7 +18,7 @@ use Rattle.bound_cert.specs.declared.proof.BoundRule.TheVariants as rules
 use Rattle.bound_cert.specs.declared.proof.BoundFault.{BoundFault}
 use Rattle.bound_cert.specs.Formed.{IsInRange, cuts_of}
 use Rattle.bound_cert.specs.Lines.{Line, Own, OfExpanded, OfPruned, OfCut, cut_lines, lines_by, state_lines, lines, proof_lines, rank, Breaks, BreaksFirst, Keeps, IsFirstFault}
-use Rattle.bound_cert.specs.Proven.{numbered, IsThere, IsPruned, IsLeft, IsBoundProof}
+use Rattle.bound_cert.specs.Proven.{numbered, IsThere, IsLeft, IsBoundProof}
 use Rattle.bound_cert.proofs.ListLemmas.{take_next, split_at}
 use Rattle.bound_cert.proofs.RoomLemmas.{weight_of-append, next_cuts}
 
@@ -304,11 +304,13 @@ module _ (task : TaskMeaning) (k : ℕ) (states : List BoundState) where
       let ms : List CutMeaning = cuts_meaning task.atoms cuts in
       let first : Keeps task k states (OfPruned s ms) = All-head (Keeps task k states) (OfPruned s ms) (cut_lines s.state [] ms) all in
       let rest : All (Keeps task k states) (cut_lines s.state [] ms) = All-tail (Keeps task k states) (OfPruned s ms) (cut_lines s.state [] ms) all in
-      let within : All (λ cut. cut.weight ≤ most) ms = All-map (λ cut. cut.weight ≤ most) (cut_meaning task.atoms) cuts (λ i d lt. (ranges i d lt).weight) in
-      (first.0, record {
-        lawful = record { each = kept_cuts s.state [] ms within rest; within = kept_charges s.state [] ms (λ action. omega arith) rest };
-        enough = first.1;
-      })
+      let within : All (λ cut. cut.weight ≤ most) ms = All-map (λ cut. cut.weight ≤ most) (cut_meaning task.atoms) cuts (λ i d lt. (ranges i d lt).weight) in (
+        first.0,
+        record {
+          lawful = record { each = kept_cuts s.state [] ms within rest; within = kept_charges s.state [] ms (λ action. omega arith) rest };
+          enough = first.1;
+        },
+      )
 
   all_left : (list : List BoundState) → All InRange list → All (Keeps task k states) (lines task.atoms list) → All (λ s. (s.number < k) × LeftOf s) list
   all_left [] ranges all = All-nil (λ s. (s.number < k) × LeftOf s)

@@ -1,6 +1,6 @@
 -- Looking for a state among states that ascend.
-use Rattle.std.proofs.Common.{◌≡◌, ℕ, ◌+◌, ◌≤◌, ◌<◌, Bool, true, false, nat_eq, nat_lt, if◌then◌else◌, List, [], ◌∷◌, length, map, Some, refl, sym, ap, ◌∙◌, arith, subst, ◌⊎◌, inl, inr, All, Contains, slice_get}
-use Rattle.std.proofs.lemmas.Bool.{false≢true, true≢false, false_from_ne_true, cases_lt, eq-eqb, eqb-true}
+use Rattle.std.proofs.Common.{◌≡◌, ℕ, ◌+◌, ◌≤◌, ◌<◌, Bool, true, false, nat_eq, nat_lt, if◌then◌else◌, List, [], ◌∷◌, length, map, Some, refl, sym, ap, ◌∙◌, arith, subst, inl, inr, All, slice_get}
+use Rattle.std.proofs.lemmas.Bool.{false≢true, true≢false, false_from_ne_true, cases_lt}
 use Rattle.std.proofs.lemmas.Bool.Decides.{nat_tests}
 use Rattle.std.proofs.lemmas.List.{length-map}
 use Rattle.std.proofs.lemmas.Option.{slice_get_within, get_or_from_slice_get}
@@ -8,7 +8,7 @@ use Rattle.mre_base.specs.Before.{is_earlier_list}
 use Rattle.mre_base.specs.Sets.{BitSet, numbers_below}
 use Rattle.mre_base.proofs.ListOrder.{is_earlier_list-itself}
 use Rattle.task_kit.specs.Tasks.{Numbers}
-use Rattle.task_kit.specs.Bounds.{NumberedState, IsKnownWithin}
+use Rattle.task_kit.specs.Bounds.{IsKnownWithin}
 use Rattle.task_kit.proofs.AtomLemmas.{same_bits}
 use Rattle.task_kit.proofs.PlaceLemmas.{item_there}
 use Rattle.bound_cert.specs.declared.proof.BoundState.{BoundState}
@@ -71,11 +71,13 @@ module _ (states : List BoundState) (wanted : BitSet) (place : ℕ) (ascending :
     where
       at_least : place ≤ p → place < length states × (p ≡ place)
       at_least from =
-          let inside : p < length states = slice_get_within states p s there in
-          (omega arith, elim (cases_lt place p) [
-            | inl higher ↦ absurd (beyond (item_there states place (omega arith)) higher)
-            | inr le ↦ omega arith
-          ])
+          let inside : p < length states = slice_get_within states p s there in (
+            omega arith,
+            elim (cases_lt place p) [
+              | inl higher ↦ absurd (beyond (item_there states place (omega arith)) higher)
+              | inr le ↦ omega arith
+            ],
+          )
         where
           beyond : (t : BoundState) × (slice_get states place ≡ Some t) → place < p → ⊥
           beyond (t, at) higher =

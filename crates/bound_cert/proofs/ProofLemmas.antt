@@ -1,8 +1,8 @@
 -- A bound proof shows its bound: a pruned state is far from the goal by the law of cuts.
-use Rattle.std.proofs.Common.{◌≡◌, ℕ, ◌+◌, ◌≤◌, ◌<◌, inl, inr, ◌⊎◌, List, [], ◌∷◌, map, Contains, All, refl, sym, ◌∙◌, subst, arith}
+use Rattle.std.proofs.Common.{ℕ, ◌+◌, ◌≤◌, ◌<◌, inl, inr, ◌⊎◌, List, map, All, subst, arith}
 use Rattle.std.proofs.lemmas.List.Elements.{All-contains, All-map}
 use Rattle.task_kit.specs.Tasks.{Numbers, TaskMeaning, cost_of}
-use Rattle.task_kit.specs.Bounds.{HasNoCheaper, IsExpanded, IsFar, IsListed, NumberedState, Shows}
+use Rattle.task_kit.specs.Bounds.{IsExpanded, IsFar, NumberedState, Shows}
 use Rattle.task_kit.specs.Cuts.{CutMeaning, weights}
 use Rattle.task_kit.proofs.BoundLemmas.{bound_law}
 use Rattle.task_kit.proofs.CutLemmas.{cut_law}
@@ -29,11 +29,11 @@ shows task k states proof =
     record {
       start = proof.start;
       each = λ state number there.
-        let P : NumberedState → Type 0 = λ s. IsExpanded task k (IsThere states) s.state s.number ⊎ IsFar task k s.state s.number ⊎ ((smaller : ℕ) × IsThere states s.state smaller × (smaller < s.number)) in
-        let each : All (λ s. P (numbered s)) states = λ place d lt. left_shows task k (IsThere states) _ _ _ (proof.each place d lt) in
-        let found : P there.0 = All-contains P (map numbered states) there.0 (All-map P numbered states each) there.1 in
-        subst (λ n. IsExpanded task k (IsThere states) state n ⊎ IsFar task k state n ⊎ ((smaller : ℕ) × IsThere states state smaller × (smaller < n))) there.3
-        (subst (λ s. IsExpanded task k (IsThere states) s there.0.number ⊎ IsFar task k s there.0.number ⊎ ((smaller : ℕ) × IsThere states s smaller × (smaller < there.0.number))) there.2 found);
+          let P : NumberedState → Type 0 = λ s. IsExpanded task k (IsThere states) s.state s.number ⊎ IsFar task k s.state s.number ⊎ ((smaller : ℕ) × IsThere states s.state smaller × (smaller < s.number)) in
+          let each : All (λ s. P (numbered s)) states = λ place d lt. left_shows task k (IsThere states) _ _ _ (proof.each place d lt) in
+          let found : P there.0 = All-contains P (map numbered states) there.0 (All-map P numbered states each) there.1 in
+          subst (λ n. IsExpanded task k (IsThere states) state n ⊎ IsFar task k state n ⊎ ((smaller : ℕ) × IsThere states state smaller × (smaller < n))) there.3
+          (subst (λ s. IsExpanded task k (IsThere states) s there.0.number ⊎ IsFar task k s there.0.number ⊎ ((smaller : ℕ) × IsThere states s smaller × (smaller < there.0.number))) there.2 found);
     }
 
 pub bound_proof_law : BoundProofLaw

@@ -1,5 +1,5 @@
 -- What a bound proof is: listed states, each with a number, that together show that no valid list of a task costs less than a bound.
-use Rattle.std.specs.Prelude.{ℕ, ◌+◌, ◌≡◌, ◌≤◌, ◌<◌, List, map, All}
+use Rattle.std.specs.Prelude.{ℕ, ◌+◌, ◌≤◌, ◌<◌, List, map, All}
 use Rattle.task_kit.specs.Tasks.{Numbers, TaskMeaning}
 use Rattle.task_kit.specs.Bounds.{HasNoCheaper, IsExpanded, NumberedState, IsListed}
 use Rattle.task_kit.specs.Cuts.{CutMeaning, weights, AreLawful}

@@ -42,15 +42,15 @@ fn broken_by_cut<T: TaskView>(
     ensures kept { (before : List CutMeaning) (k : ℕ) (states : List BoundState) →
         AreCharged (T.seen task.now) before scratch.old.charged.items →
         IfNone result (Keeps (T.seen task.now) k states
-            (OfCut state.now.members before (cut_meaning (T.seen task.now).atoms cut.now))) }
+        (OfCut state.now.members before (cut_meaning (T.seen task.now).atoms cut.now))) }
     ensures charged { (before : List CutMeaning) →
         AreCharged (T.seen task.now) before scratch.old.charged.items →
         IfNone result (AreCharged (T.seen task.now)
-            (before ++ cut_meaning (T.seen task.now).atoms cut.now ∷ []) scratch.new.charged.items) }
+        (before ++ cut_meaning (T.seen task.now).atoms cut.now ∷ []) scratch.new.charged.items) }
     ensures broken { (before : List CutMeaning) (k : ℕ) (states : List BoundState) →
         AreCharged (T.seen task.now) before scratch.old.charged.items →
         IfSome result (λ rule. BreaksFirst (T.seen task.now) k states
-            (OfCut state.now.members before (cut_meaning (T.seen task.now).atoms cut.now)) rule) }
+        (OfCut state.now.members before (cut_meaning (T.seen task.now).atoms cut.now)) rule) }
     ensures scratch { IsScratchOf (T.seen task.now) scratch.new }
 {
     make_set(&scratch.all, cut.lacks.as_slice(), &mut scratch.among);

@@ -41,7 +41,7 @@ fn has_successor<T: TaskView>(
     ensures yes { IsTrue result → applies (T.seen task.now) action from.now.state.members ≡ true →
         (k ≤ from.now.number + price (T.seen task.now) action)
         ⊎ IsKnownWithin (IsThere states.now) (after (T.seen task.now) action from.now.state.members)
-            (from.now.number + price (T.seen task.now) action) }
+        (from.now.number + price (T.seen task.now) action) }
     ensures no { result ≡ false → LacksSuccessor (T.seen task.now) k states.now
         from.now.state.members from.now.number action }
     ensures into_width { into.new.width ≡ into.old.width }
@@ -74,7 +74,7 @@ fn has_successors<T: TaskView>(
         applies (T.seen task.now) action from.now.state.members ≡ true →
         (k ≤ from.now.number + price (T.seen task.now) action)
         ⊎ IsKnownWithin (IsThere states.now) (after (T.seen task.now) action from.now.state.members)
-            (from.now.number + price (T.seen task.now) action) }
+        (from.now.number + price (T.seen task.now) action) }
     ensures no { result ≡ false → (action : ℕ) × LacksSuccessor (T.seen task.now) k
         states.now from.now.state.members from.now.number action }
     ensures into_width { into.new.width ≡ into.old.width }

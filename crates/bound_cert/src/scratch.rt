@@ -9,13 +9,13 @@ use task_kit::TaskView;
 #[derive(Drop)]
 pub struct Scratch {
     // A successor.
-    pub into: Bits,
+    pub(crate) into: Bits,
     // The set of a cut.
-    pub among: Bits,
+    pub(crate) among: Bits,
     // Every atom.
-    pub all: Bits,
+    pub(crate) all: Bits,
     // What the cuts of a state charge each action.
-    pub charged: Vec<u64>,
+    pub(crate) charged: Vec<u64>,
 }
 
 impl Scratch {

@@ -16,6 +16,7 @@ returns-in-None-clause-no_cheaper g c _ =
 pub returns-in-Some-clause-ok : goal.returns-in-Some-clause-ok
 returns-in-Some-clause-ok g c =
     let task = g.T.TaskView.seen c.args.task.now in
-    let states = c.args.proof.now.states in
-    (λ ok. search rules,
-    λ proof. absurd (fault_breaks task c.args.k states (proof_lines task.atoms states) 1 c.in-Some.fault c.in-Some.ensures.broken (proof_keeps task c.args.k states proof)))
+    let states = c.args.proof.now.states in (
+      λ ok. search rules,
+      λ proof. absurd (fault_breaks task c.args.k states (proof_lines task.atoms states) 1 c.in-Some.fault c.in-Some.ensures.broken (proof_keeps task c.args.k states proof)),
+    )

@@ -1,4 +1,3 @@
-use Rattle.std.proofs.Common.{◌+◌}
 use Rattle.bound_cert.proofs.ListLemmas.{none_then, some_then}
 use Rattle.bound_cert.proofs.LineLemmas.{fault_at_expanded, fault_at_pruned, pruned_keeps, fault_past_pruned}
 use Rattle.bound_cert.proofs.checking.fault_of_state.Goals as goal

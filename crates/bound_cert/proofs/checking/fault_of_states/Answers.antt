@@ -1,4 +1,4 @@
-use Rattle.std.proofs.Common.{◌+◌, length, take, All, sym, ap, ◌∙◌, subst, arith}
+use Rattle.std.proofs.Common.{length, take, All, ap, subst, arith}
 use Rattle.std.proofs.lemmas.List.{length-append, take_all}
 use Rattle.bound_cert.specs.Lines.{state_lines, lines, Keeps}
 use Rattle.bound_cert.proofs.LineLemmas.{few_lines, lines_next, length-state_lines, states_keep, fault_in_states}

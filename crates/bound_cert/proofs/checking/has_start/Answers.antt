@@ -1,4 +1,4 @@
-use Rattle.std.proofs.Common.{◌≡◌, ◌+◌, sym, ap, ◌∙◌, arith, subst}
+use Rattle.std.proofs.Common.{sym, ◌∙◌, arith, subst}
 use Rattle.std.proofs.lemmas.Bool.{true≢false}
 use Rattle.task_kit.specs.Bounds.{IsKnownWithin}
 use Rattle.bound_cert.specs.Proven.{IsThere}
@@ -11,7 +11,8 @@ returns-clause-yes g c e above =
     (subst (λ b. IsKnownWithin (IsThere c.args.states.now) b.members 0) c.start.ensures (c.is_within.ensures.0 e))
 
 pub returns-clause-no : goal.returns-clause-no
-returns-clause-no g c e =
-    (omega arith,
-    λ there.
-      true≢false (sym (c.is_within.ensures.1 (subst (λ b. IsKnownWithin (IsThere c.args.states.now) b.members 0) (sym c.start.ensures) (0, there, omega arith))) ∙ e))
+returns-clause-no g c e = (
+  omega arith,
+  λ there.
+      true≢false (sym (c.is_within.ensures.1 (subst (λ b. IsKnownWithin (IsThere c.args.states.now) b.members 0) (sym c.start.ensures) (0, there, omega arith))) ∙ e),
+)

@@ -24,8 +24,8 @@ loop-place-preserved g c =
           subst (λ cuts. AreCharged task cuts c.broken_by_cut-broken.new.scratch.charged.items) (sym (next_cuts task.atoms c.args.cuts.now c.loop-place.place c.item.result.now c.item.ensures))
           (c.in_default.ensures.charged before c.loop-place.invariant.charged);
       kept = λ k states.
-        cuts_keep_more task k states c.args.state.now.members c.args.cuts.now c.loop-place.place c.item.result.now c.item.ensures (c.loop-place.invariant.kept k states)
-        (c.in_default.ensures.kept before k states c.loop-place.invariant.charged);
+          cuts_keep_more task k states c.args.state.now.members c.args.cuts.now c.loop-place.place c.item.result.now c.item.ensures (c.loop-place.invariant.kept k states)
+          (c.in_default.ensures.kept before k states c.loop-place.invariant.charged);
     }
 
 pub returns-clause-kept : goal.returns-clause-kept

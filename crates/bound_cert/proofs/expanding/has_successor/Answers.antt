@@ -1,7 +1,7 @@
 use Rattle.std.proofs.Common.{◌+◌, sym, ap, ◌∙◌, arith, subst, inr}
 use Rattle.std.proofs.lemmas.Bool.{true≢false}
 use Rattle.task_kit.specs.Bounds.{IsKnownWithin}
-use Rattle.task_kit.specs.Tasks.{price, after}
+use Rattle.task_kit.specs.Tasks.{price}
 use Rattle.bound_cert.specs.Proven.{IsThere}
 use Rattle.bound_cert.proofs.expanding.has_successor.Goals as goal
 
@@ -21,7 +21,7 @@ returns-clause-no g c e =
       does = sym c.applies.ensures ∙ c.if-not-applies.false;
       cheap = omega (arith, c.price_of-price.ensures.price, c.if-k-from.false, c.requires.below);
       unknown = λ within.
-        true≢false (sym (c.is_within.ensures.1
-        (subst (λ p. IsKnownWithin known c.next_into.new.into.members (number + p)) (sym c.price_of-price.ensures.price)
-        (subst (λ state. IsKnownWithin known state (number + price task c.args.action)) (sym (ap (λ b. b.members) c.next_into.ensures)) within))) ∙ e);
+          true≢false (sym (c.is_within.ensures.1
+          (subst (λ p. IsKnownWithin known c.next_into.new.into.members (number + p)) (sym c.price_of-price.ensures.price)
+          (subst (λ state. IsKnownWithin known state (number + price task c.args.action)) (sym (ap (λ b. b.members) c.next_into.ensures)) within))) ∙ e);
     }
