@@ -4,7 +4,7 @@ ghost use Rattle.task_kit.specs.Cuts.{most};
 ghost use Rattle.task_kit.specs.Tasks.{price};
 ghost use Rattle.bound_cert.specs.Rooms.{charge_by, AreCharged};
 
-use crate::expanding::price_of;
+use crate::price::price_of;
 use mre_base::Bits;
 use task_kit::TaskView;
 

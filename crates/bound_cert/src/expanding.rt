@@ -7,21 +7,10 @@ ghost use Rattle.bound_cert.specs.Lines.{Line, OfExpanded, LacksSuccessor, Break
 ghost use Rattle.bound_cert.specs.Proven.{IsThere, numbered};
 
 use crate::looking::is_within;
+use crate::price::price_of;
 use crate::proof::{BoundRule, BoundState};
 use mre_base::{Bits, List};
 use task_kit::TaskView;
-
-/// The cost of an action, or 0 where it has none.
-pub fn price_of<T: TaskView>(task: &T, action: u32) -> u64
-    requires { action < length (T.seen task.now).actions }
-    ensures price { result ≡ price (T.seen task.now) action }
-    ensures small { result < 2 ^ 32 }
-{
-    match task.cost(action) {
-        None => 0,
-        Some(cost) => cost as u64,
-    }
-}
 
 // Whether the successor by an action costs too much or is listed, where there is one.
 fn has_successor<T: TaskView>(

@@ -10,7 +10,8 @@ pub enum How {
     Pruned(Cuts),
 }
 
-/// A state that every list to it costs at least `number`, and how it was left.
+/// A state with a number, and how it was left: every list from it to the goal costs so much that it comes with the number to at least
+/// the bound.
 #[derive(Debug, Drop)]
 pub struct BoundState {
     pub number: u64,
