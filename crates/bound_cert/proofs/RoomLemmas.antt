@@ -81,13 +81,7 @@ not_counted task action (cut ∷ cuts) past =
     let never : counts task action cut ≡ false = false_from_ne_true _ (λ yes. never_applies task action cut.among past (and_parts _ _ yes).0) in
     ap (λ b. cond b cut.weight 0 + weight_of (counts task action) cuts) never ∙ ap (λ n. 0 + n) (not_counted task action cuts past)
 
-pub charged_none : (task : TaskMeaning) (charged : List ℕ) → length charged ≡ length task.actions → ((action : ℕ) → action < length charged → slice_index charged action ≡ 0) → AreCharged task [] charged
-charged_none task charged sized none = record { noted = λ action lt. none action (omega arith); within = λ action. omega arith }
-
 module _ (task : TaskMeaning) (before : List CutMeaning) (cut : CutMeaning) (old : List ℕ) (charged : AreCharged task before old) where
-  pub within_old : (action : ℕ) → action < length task.actions → slice_index old action ≤ price task action
-  within_old action lt = subst (λ n. n ≤ price task action) (sym (charged.noted action lt)) (charged.within action)
-
   summed : (action : ℕ) → action < length task.actions → slice_index old action + charge_by task cut action ≡ weight_of (counts task action) (before ++ cut ∷ [])
   summed action lt = ap (λ n. n + charge_by task cut action) (charged.noted action lt) ∙ sym (weight_of-push (counts task action) before cut)
 
