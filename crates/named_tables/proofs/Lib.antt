@@ -1,0 +1,7 @@
+pub mod CaseLemmas
+pub mod LawLemmas
+pub mod NumberLemmas
+pub mod PriceLemmas
+pub mod ReachLemmas
+pub mod StepLemmas
+pub mod TableLemmas

@@ -1,0 +1,5 @@
+pub mod Laws
+pub mod Models
+pub mod Numbered
+pub mod Reachable
+pub mod Tables
