@@ -1,12 +1,12 @@
 -- Cases say of each set of differences what the user's model has after it.
-use Rattle.std.proofs.Common.{◌≡◌, ℕ, Bool, true, false, not, cond, List, Some, refl, sym, ap, ◌∙◌, subst, ⊎_elim, inl, inr}
-use Rattle.std.specs.Prelude.{◌↔◌, ◌⊎◌, Contains}
+use Rattle.std.proofs.Common.{◌≡◌, ℕ, Bool, true, false, not, cond, List, refl, sym, ap, ◌∙◌, subst, inl, inr}
+use Rattle.std.specs.Prelude.{◌↔◌}
 use Rattle.std.specs.Option.{option_map_or}
 use Rattle.std.specs.FinSet as set
 use Rattle.std.proofs.lemmas.Bool.{false_from_ne_true}
 use Rattle.cube_kit.specs.Cubes.{Told}
 use Rattle.model_kit.specs.declared.atom.GroundAtom.{GroundAtom}
-use Rattle.model_kit.specs.Places.{Place, Content, Meaning}
+use Rattle.model_kit.specs.Places.{Place, Content}
 use Rattle.model_kit.specs.Differences.{is_told}
 use Rattle.model_kit.specs.Runs.{Has, is_on}
 use Rattle.task_kit.specs.Tasks.{Numbers}

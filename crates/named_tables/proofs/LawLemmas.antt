@@ -1,5 +1,5 @@
 -- Lists of numbers run in the table of what may be reached as lists of ground actions run in the models.
-use Rattle.std.proofs.Common.{◌≡◌, ℕ, ◌≤◌, List, [], ◌∷◌, length, Some, refl, sym, ap, ◌∙◌, arith}
+use Rattle.std.proofs.Common.{◌≡◌, ℕ, List, [], ◌∷◌, length, Some, ap, ◌∙◌, arith}
 use Rattle.std.specs.Prelude.{◌↔◌, All, slice_get}
 use Rattle.std.specs.List.{AllByRecursion}
 use Rattle.std.proofs.lemmas.List.Elements.{All-nil, All-cons}
@@ -14,7 +14,7 @@ use Rattle.case_kit.specs.declared.table.CaseTable.{CaseTable}
 use Rattle.case_kit.specs.Members.{member}
 use Rattle.named_tables.specs.Models.{Models, after_told}
 use Rattle.named_tables.specs.Reachable.{Reachable, Action}
-use Rattle.named_tables.specs.Numbered.{ListsReachable, AreNumbersOf, IsCheapestIn, RunsAsNamed}
+use Rattle.named_tables.specs.Numbered.{ListsReachable, AreNumbersOf, IsCheapestIn}
 use Rattle.named_tables.specs.Tables.{number_in, IsTableOf}
 use Rattle.named_tables.specs.Laws.{RunLaw}
 use Rattle.named_tables.proofs.ReachLemmas.{reached_fits, valid_reached}
@@ -65,10 +65,13 @@ module _ (models : Models) (atoms : List GroundAtom) (actions : List GroundActio
   -- no valid list costs less here exactly where none does there
   cheapest : (plan : List GroundAction) (list : List ℕ) → AreNumbersOf actions list plan → named.IsCheapest models.words (after_told models told) plan ↔ IsCheapestIn table told list
   cheapest plan list are = (
-    λ best. ((valids plan list are).0 best.valid, λ other valid.
-        let (names, others, fits) = plans other valid in
-        let less = best.least names fits ((valids names other others).1 valid) in
-        omega (arith, less, costs plan list are, costs names other others)),
+    λ best. (
+      (valids plan list are).0 best.valid,
+      λ other valid.
+          let (names, others, fits) = plans other valid in
+          let less = best.least names fits ((valids names other others).1 valid) in
+          omega (arith, less, costs plan list are, costs names other others),
+    ),
     λ (valid, best). record {
       valid = (valids plan list are).1 valid;
       least = λ other fits runs.

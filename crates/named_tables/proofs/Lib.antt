@@ -1,4 +1,5 @@
 pub mod CaseLemmas
+pub mod ExampleLemmas
 pub mod LawLemmas
 pub mod NumberLemmas
 pub mod PriceLemmas

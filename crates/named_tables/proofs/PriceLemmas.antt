@@ -1,24 +1,21 @@
 -- The cost that a table gives an action is its cost after each set of differences.
-use Rattle.std.proofs.Common.{◌≡◌, ℕ, Bool, true, false, cond, is_some, List, Option, Some, None, refl, sym, ap, ◌∙◌, map}
-use Rattle.std.specs.Prelude.{◌↔◌, IsSome}
+use Rattle.std.proofs.Common.{◌≡◌, ℕ, Bool, true, false, cond, is_some, List, Option, None, refl, sym, ap, ◌∙◌, map}
 use Rattle.std.specs.FinSet as set
 use Rattle.cube_kit.specs.Cubes.{Told}
 use Rattle.model_kit.specs.declared.action.GroundAction.{GroundAction}
 use Rattle.model_kit.specs.declared.model.CostExpr.TheVariants.{Number, Call}
 use Rattle.model_kit.specs.Places.{Place, Knows, Cost, Value, Content, Feature, Price, Worth, Nothing}
 use Rattle.model_kit.specs.Differences.{is_told}
-use Rattle.model_kit.specs.Runs.{is_on, object_of, worth, price_of, cost_of}
+use Rattle.model_kit.specs.Runs.{object_of, worth, price_of, cost_of}
 use Rattle.case_kit.specs.declared.cases.When.{When}
 use Rattle.case_kit.specs.declared.costs.CaseValue.{CaseValue}
 use Rattle.case_kit.specs.declared.costs.CaseValue.TheVariants as values
 use Rattle.case_kit.specs.declared.costs.CaseCost.{CaseCost}
 use Rattle.case_kit.specs.declared.costs.CaseCost.TheVariants as costs
-use Rattle.case_kit.specs.Parts.{has_cost}
-use Rattle.case_kit.specs.Sound.{is_apart, is_beside}
-use Rattle.case_kit.specs.Members.{holds, value_after, cost_after, cost_if_known}
+use Rattle.case_kit.specs.Members.{value_after, cost_after, cost_if_known}
 use Rattle.case_kit.proofs.EverLemmas.{ever_there, ever_back}
-use Rattle.named_tables.specs.Models.{Models, after_told, HasSomeCost}
-use Rattle.named_tables.specs.Tables.{IsNumber, IsWhen, IsWorth, IsValue, IsCostOf}
+use Rattle.named_tables.specs.Models.{Models, after_told}
+use Rattle.named_tables.specs.Tables.{IsWhen, IsWorth, IsValue, IsCostOf}
 use Rattle.named_tables.specs.Laws.{PricedLaw}
 use Rattle.named_tables.proofs.CaseLemmas.{told_by, when_holds}
 

@@ -1,17 +1,16 @@
 -- A valid list of ground actions never leaves what may be reached.
-use Rattle.std.proofs.Common.{◌≡◌, ℕ, List, [], ◌∷◌, Some, refl, sym, ap, ◌∙◌, subst, ⊎_elim, inl, inr}
-use Rattle.std.specs.Prelude.{◌⊎◌, All}
+use Rattle.std.proofs.Common.{List, [], ◌∷◌, refl, subst, inl, inr}
+use Rattle.std.specs.Prelude.{All}
 use Rattle.std.specs.List.{AllByRecursion}
 use Rattle.std.proofs.lemmas.List.Elements.{recursion_from_All}
 use Rattle.cube_kit.specs.Cubes.{Told}
 use Rattle.model_kit.specs.declared.atom.GroundAtom.{GroundAtom}
-use Rattle.model_kit.specs.declared.atom.SchemaAtom.{SchemaAtom}
 use Rattle.model_kit.specs.declared.action.GroundAction.{GroundAction}
 use Rattle.model_kit.specs.Places.{Init, Pre, Add}
 use Rattle.model_kit.specs.Vocabulary.{IsGroundAction}
-use Rattle.model_kit.specs.Runs.{Has, State, instance, Applies, After, Leads, IsGoal, IsValid, Initial as first_state}
-use Rattle.named_tables.specs.Models.{Models, after_told, EitherHas}
-use Rattle.named_tables.specs.Reachable.{Thing, Atom, Action, Reachable, Initial, Enabled, Added}
+use Rattle.model_kit.specs.Runs.{State, instance, Applies, After, Leads, IsGoal, IsValid, Initial as first_state}
+use Rattle.named_tables.specs.Models.{Models, after_told}
+use Rattle.named_tables.specs.Reachable.{Atom, Action, Reachable, Initial, Enabled, Added}
 use Rattle.named_tables.proofs.CaseLemmas.{either_has, both_have}
 
 -- each reachable action is a ground action

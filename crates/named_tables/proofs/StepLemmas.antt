@@ -1,6 +1,6 @@
 -- Named states and sets of numbers, side by side: what applies, what comes after, and what is valid.
 use Rattle.std.proofs.Common.{◌≡◌, ℕ, ◌+◌, ◌≤◌, ◌<◌, Bool, true, false, ◌&&◌, ◌||◌, not, is_some, List, [], ◌∷◌, Option, Some, None, unwrap_or, refl, sym, ap, ◌∙◌, arith, subst, ⊎_elim, inl, inr}
-use Rattle.std.specs.Prelude.{◌↔◌, ◌⊎◌, slice_get, sum_by}
+use Rattle.std.specs.Prelude.{◌↔◌, ◌⊎◌, slice_get}
 use Rattle.std.specs.FinSet as set
 use Rattle.std.specs.FinSet.{is_subset-contains, contains-is_subset}
 use Rattle.std.specs.Cmp.{nat_cmp_total}
@@ -109,8 +109,8 @@ module _ (n : ℕ) (number : GroundAtom → ℕ) (actions : List GroundAction) (
         back atom h =
             elim (or_cases (set.contains bits (number atom) && not (set.contains (action_at task k).del (number atom))) (set.contains (action_at task k).add (number atom)) h) [
               | inl stays ↦
-                let (on, kept) = and_parts (set.contains bits (number atom)) (not (set.contains (action_at task k).del (number atom))) stays in
-                inl ((stands.each atom).1 on, λ deletes. true≢false (sym ((a.del (number atom)).1 (atom, deletes, refl)) ∙ not-true (set.contains (action_at task k).del (number atom)) kept))
+                  let (on, kept) = and_parts (set.contains bits (number atom)) (not (set.contains (action_at task k).del (number atom))) stays in
+                  inl ((stands.each atom).1 on, λ deletes. true≢false (sym ((a.del (number atom)).1 (atom, deletes, refl)) ∙ not-true (set.contains (action_at task k).del (number atom)) kept))
               | inr adds ↦ inr (added atom adds)
             ]
 

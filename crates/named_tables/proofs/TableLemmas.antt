@@ -1,8 +1,7 @@
 -- A table of two models that lists what may be reached is, after each set of differences, the user's model in numbers.
-use Rattle.std.proofs.Common.{◌≡◌, ℕ, ◌+◌, ◌≤◌, ◌<◌, List, [], ◌∷◌, length, map, Option, Some, None, unwrap_or, refl, sym, ap, ◌∙◌, arith, subst, ⊎_elim, inl, inr}
-use Rattle.std.specs.Prelude.{◌↔◌, ◌⊎◌, Contains, slice_get}
+use Rattle.std.proofs.Common.{◌≡◌, ℕ, ◌≤◌, ◌<◌, List, length, Some, None, unwrap_or, refl, sym, ap, ◌∙◌, arith, subst, inl, inr}
+use Rattle.std.specs.Prelude.{Contains, slice_get}
 use Rattle.std.specs.Option.{option_map}
-use Rattle.std.specs.FinSet as set
 use Rattle.std.proofs.lemmas.Bool.{cases_lt}
 use Rattle.std.proofs.lemmas.Option.{slice_get_within, slice_get_past, slice_get-map, get_or_from_slice_get}
 use Rattle.cube_kit.specs.Cubes.{Told}
@@ -10,16 +9,16 @@ use Rattle.model_kit.specs.declared.atom.GroundAtom.{GroundAtom}
 use Rattle.model_kit.specs.declared.atom.SchemaAtom.{SchemaAtom}
 use Rattle.model_kit.specs.declared.action.GroundAction.{GroundAction}
 use Rattle.model_kit.specs.Places.{Init, Goal, Pre, Add, Del}
-use Rattle.model_kit.specs.Runs.{Has, instance, Adds}
-use Rattle.task_kit.specs.Tasks.{Numbers, ActionMeaning, no_action, action_at, cost_at}
+use Rattle.model_kit.specs.Runs.{Has, instance}
+use Rattle.task_kit.specs.Tasks.{Numbers, no_action, action_at, cost_at}
 use Rattle.task_kit.proofs.PlaceLemmas.{item_there}
 use Rattle.case_kit.specs.declared.action.CaseAction.{CaseAction}
 use Rattle.case_kit.specs.declared.table.CaseTable.{CaseTable}
 use Rattle.case_kit.specs.Members.{action_after, member}
-use Rattle.named_tables.specs.Models.{Models, after_told, EitherHas}
-use Rattle.named_tables.specs.Reachable.{Reachable, Atom, Action, Initial, Added}
+use Rattle.named_tables.specs.Models.{Models, after_told}
+use Rattle.named_tables.specs.Reachable.{Reachable, Atom, Initial, Added}
 use Rattle.named_tables.specs.Numbered.{ListsReachable}
-use Rattle.named_tables.specs.Tables.{number_in, IsTableOf, IsActionOf}
+use Rattle.named_tables.specs.Tables.{number_in, IsTableOf}
 use Rattle.named_tables.proofs.CaseLemmas.{AreNumbersOf, either_has, case_numbers}
 use Rattle.named_tables.proofs.NumberLemmas.{number_most, number_listed, number_there}
 use Rattle.named_tables.proofs.PriceLemmas.{cost_is}

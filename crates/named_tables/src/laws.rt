@@ -1,3 +1,4 @@
+ghost use Rattle.named_tables.specs.Example.{ExampleLaw};
 ghost use Rattle.named_tables.specs.Laws.{PricedLaw, RunLaw};
 
 /// In a table of two models that lists what may be reached, a list of numbers is to each member what the list of ground actions with
@@ -10,4 +11,9 @@ pub fn law_runs()
 /// A ground action has a cost after some set of differences exactly where some number stands in the cost that a table gives it.
 pub fn law_priced()
     ensures { PricedLaw }
+{}
+
+/// Two models of which the user believes one fact too many, what may be reached in them, and their table.
+pub fn law_example()
+    ensures { ExampleLaw }
 {}
