@@ -19,6 +19,7 @@ pub use action::TaskAction;
 pub use cut::{Cut, Cuts};
 pub use judging::{Judgement, judge};
 pub use laws::{law_bounds, law_cuts};
+pub use price::price_of;
 pub use searching::cheapest_below;
 pub use task::Task;
 pub use view::TaskView;

@@ -64,4 +64,9 @@ impl TaskView for Task {
         let action = self.actions.item(action as usize);
         !has_all(among, action.add.as_slice())
     }
+
+    fn outside(&self, action: u32, among: &Bits) -> Option<u32> {
+        let action = self.actions.item(action as usize);
+        least_missing(among, action.add.as_slice())
+    }
 }

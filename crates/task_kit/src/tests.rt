@@ -297,10 +297,12 @@ fn a_view_tells_its_task(rt: HostRuntime) -> Result<(), Fail> {
     assert_eq!(rt; n.missing(2, n.start()), Some(1));
     assert_eq!(rt; n.missing(3, n.start()), None);
     assert!(rt; n.adds_outside(0, n.start()));
+    assert_eq!(rt; n.outside(0, n.start()), Some(1));
     let mut next = Bits::empty(rt.alloc(), 6)?;
     n.next_into(0, n.start(), &mut next);
     assert!(rt; !next.contains(0) && next.contains(1) && next.contains(3));
     assert!(rt; !n.adds_outside(0, &next));
+    assert_eq!(rt; n.outside(0, &next), None);
     Ok(())
 }
 

@@ -56,4 +56,10 @@ pub trait TaskView {
         requires listed { action < length (seen self.now).actions }
         requires width { among.now.width ≡ (seen self.now).atoms + 1 }
         ensures { result ≡ adds_outside (seen self.now) action among.now.members };
+
+    /// The least atom that an action adds and the set lacks.
+    fn outside(&self, action: u32, among: &Bits) -> Option<u32>
+        requires listed { action < length (seen self.now).actions }
+        requires width { among.now.width ≡ (seen self.now).atoms + 1 }
+        ensures { IsFirstLack (action_at (seen self.now) action).add among.now.members result };
 }
