@@ -1,0 +1,4 @@
+pub mod FoundLemmas
+pub mod GrowLemmas
+pub mod LackLemmas
+pub mod LeaveLemmas

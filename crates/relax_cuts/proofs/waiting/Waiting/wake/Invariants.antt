@@ -1,0 +1,11 @@
+use Rattle.std.proofs.Common.{◌≡◌, length}
+use Rattle.relax_cuts.specs.Waiting.{IsBelow}
+use Rattle.relax_cuts.proofs.waiting.Waiting.wake.Given as goal
+
+abbrev pub invariant-loop : goal.invariant-loop
+invariant-loop l =
+    record {
+      next : IsBelow (length l.self.before.items) l.next;
+      lists : length l.self.last.items ≡ length l.initial.self.last.items;
+      places : length l.self.before.items ≡ length l.initial.self.before.items;
+    }

@@ -1,0 +1,11 @@
+//! Cuts of a state of a task, which bound the cost of every list of actions from the state to the goal from below.
+#![tactic(auto)]
+
+mod choosing;
+mod closing;
+mod cutting;
+mod lacking;
+mod leaving;
+mod waiting;
+
+pub use cutting::cuts_for;
