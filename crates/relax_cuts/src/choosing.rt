@@ -1,10 +1,16 @@
 //! The set of the next cut.
-ghost use Rattle.std.specs.Prelude.{◌≡◌, ◌+◌, length, IfOk};
+ghost use Rattle.std.specs.Prelude.{◌≡◌, ◌+◌, ◌<◌, length, IsTrue, IfOk};
+ghost use Rattle.std.specs.Option.{ForSome};
 ghost use Rattle.relax_cuts.specs.Choosing.{IsChoice};
-ghost use Rattle.relax_cuts.specs.Closing.{IsClosedUnder};
+ghost use Rattle.relax_cuts.specs.Closing.{IsClosedUnder, Spreads};
 ghost use Rattle.relax_cuts.specs.Leaving.{IsCutSet};
+ghost use Rattle.task_kit.specs.Tasks.{AllBelow};
 
+use crate::adding::Adding;
+use crate::closing::{Reach, spread};
 use crate::leaving::least_left;
+use crate::values::values_of;
+use crate::zoning::{Aim, farthest, zone_of};
 use mre_base::{Bits, NoMemory};
 use std::alloc::Global;
 use task_kit::TaskView;
@@ -16,7 +22,7 @@ pub struct Choice {
     pub least: Option<u64>,
 }
 
-/// The closure as the set of a cut.
+// The closure as the set of a cut.
 fn by_closure<T: TaskView>(task: &T, left: &Vec<u64>, state: &Bits, closure: Bits) -> Choice
     requires sized { length left.now.items ≡ length (T.seen task.now).actions }
     requires width { closure.width ≡ (T.seen task.now).atoms + 1 }
@@ -31,19 +37,106 @@ fn by_closure<T: TaskView>(task: &T, left: &Vec<u64>, state: &Bits, closure: Bit
     }
 }
 
-/// Chooses the set of the next cut of a state, given the closure of the state.
-pub fn choose<T: TaskView>(
-    _alloc: Global,
+// The state, and what is to stay outside the set of a cut: the zone of the farthest goal atom. Where that can't be made true at all,
+// nothing is to stay outside.
+fn known_of<T: TaskView>(
+    alloc: Global,
     task: &T,
+    adding: &Adding,
+    left: &Vec<u64>,
+    state: &Bits,
+    closure: &Bits,
+) -> Result<Bits, NoMemory>
+    requires sized { length left.now.items ≡ length (T.seen task.now).actions }
+    requires state_width { state.now.width ≡ (T.seen task.now).atoms + 1 }
+    requires width { closure.now.width ≡ (T.seen task.now).atoms + 1 }
+    ensures { IfOk result (λ known. known.width ≡ (T.seen task.now).atoms + 1) }
+{
+    let values = values_of(alloc, task, left, adding, state)?;
+    let mut known = state.copy(alloc)?;
+    if let Some(goal) = reachable(farthest(task, closure, &values)) {
+        let zone = zone_of(alloc, left, adding, &values, task.atoms() + 1, goal)?;
+        put_all(&mut known, &zone);
+    }
+    Ok(known)
+}
+
+// What is reached from the state by all actions while nothing of the zone comes in.
+fn proposed<T: TaskView>(
+    alloc: Global,
+    task: &T,
+    adding: &Adding,
+    left: &Vec<u64>,
+    state: &Bits,
+    closure: &Bits,
+) -> Result<Bits, NoMemory>
+    requires sized { length left.now.items ≡ length (T.seen task.now).actions }
+    requires state_width { state.now.width ≡ (T.seen task.now).atoms + 1 }
+    requires width { closure.now.width ≡ (T.seen task.now).atoms + 1 }
+    ensures spreads { IfOk result (λ among. Spreads (T.seen task.now) left.now.items 18446744073709551615
+        state.now.members among.members) }
+    ensures width { IfOk result (λ among. among.width ≡ (T.seen task.now).atoms + 1) }
+{
+    let known = known_of(alloc, task, adding, left, state, closure)?;
+    let mut reach = Reach {
+        among: state.copy(alloc)?,
+        known,
+    };
+    spread(alloc, task, left, u64::MAX, &mut reach)?;
+    Ok(reach.among)
+}
+
+fn reachable(aim: Option<Aim>) -> Option<u32> {
+    let aim = aim?;
+    let _value = aim.value?;
+    Some(aim.atom)
+}
+
+fn put_all(bits: &mut Bits, more: &Bits)
+    requires { bits.old.width ≡ more.now.width }
+    ensures { bits.new.width ≡ bits.old.width }
+{
+    for atom in 0..more.width() {
+        if more.contains(atom) {
+            bits.put(atom);
+        }
+    }
+}
+
+fn is_above_0(least: Option<u64>) -> bool
+    ensures { IsTrue result → ForSome least (λ weight. 0 < weight) }
+{
+    match least {
+        None => true,
+        Some(weight) => 0 < weight,
+    }
+}
+
+/// Chooses the set of the next cut of a state, given the closure of the state. The closure is taken only where the proposed set is none
+/// of a cut, or has a free way out.
+pub fn choose<T: TaskView>(
+    alloc: Global,
+    task: &T,
+    adding: &Adding,
     left: &Vec<u64>,
     state: &Bits,
     closure: Bits,
 ) -> Result<Choice, NoMemory>
     requires sized { length left.now.items ≡ length (T.seen task.now).actions }
+    requires state_width { state.now.width ≡ (T.seen task.now).atoms + 1 }
+    requires below { AllBelow (T.seen task.now).atoms state.now.members }
     requires width { closure.width ≡ (T.seen task.now).atoms + 1 }
     requires cut_set { IsCutSet (T.seen task.now) state.now.members closure.members }
     requires closed { IsClosedUnder (T.seen task.now) left.now.items 0 closure.members }
     ensures { IfOk result (IsChoice (T.seen task.now) left.now.items state.now.members) }
 {
+    let among = proposed(alloc, task, adding, left, state, &closure)?;
+    if task.goal().is_subset(&among) {
+        return Ok(by_closure(task, left, state, closure));
+    }
+    let least = least_left(task, left, &among);
+    if is_above_0(least) {
+        return Ok(Choice { among, least });
+    }
     Ok(by_closure(task, left, state, closure))
 }

@@ -7,6 +7,7 @@ ghost use Rattle.task_kit.specs.Cuts.{AreLawful};
 ghost use Rattle.task_kit.specs.Kept.{cuts_meaning};
 ghost use Rattle.task_kit.specs.Tasks.{AllBelow};
 
+use crate::adding::Adding;
 use crate::choosing::choose;
 use crate::closing::close;
 use crate::lacking::lacks_of;
@@ -44,6 +45,7 @@ fn found_cuts<T: TaskView>(alloc: Global, task: &T, state: &Bits) -> Result<Cuts
     requires below { AllBelow (T.seen task.now).atoms state.now.members }
     ensures { IfOk result (AreFound (T.seen task.now) state.now.members) }
 {
+    let adding = Adding::for_task(alloc, task)?;
     let mut left = prices(alloc, task)?;
     let mut cuts = List::empty(alloc);
     // Each cut uses up what is left of an action, so the last round finds the goal atoms in the closure, or a cut that counts no action.
@@ -52,7 +54,7 @@ fn found_cuts<T: TaskView>(alloc: Global, task: &T, state: &Bits) -> Result<Cuts
         if task.goal().is_subset(&closure) {
             return Ok(cuts);
         }
-        let choice = choose(alloc, task, &left, state, closure)?;
+        let choice = choose(alloc, task, &adding, &left, state, closure)?;
         let lacks = lacks_of(alloc, task.atoms(), &choice.among)?;
         match choice.least {
             None => {

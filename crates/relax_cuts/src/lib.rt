@@ -1,11 +1,16 @@
 //! Cuts of a state of a task, which bound the cost of every list of actions from the state to the goal from below.
 #![tactic(auto)]
 
+mod adding;
 mod choosing;
 mod closing;
 mod cutting;
 mod lacking;
 mod leaving;
+#[cfg(test)]
+mod tests;
+mod values;
 mod waiting;
+mod zoning;
 
 pub use cutting::cuts_for;

@@ -1,0 +1,107 @@
+//! Small tasks for tests, from rows of numbers.
+ghost use Rattle.std.specs.Prelude.{◌≡◌, ◌+◌, ◌^◌, ◌<◌, ◌≤◌, All, length, IfOk, unwrap_or};
+ghost use Rattle.task_kit.specs.Tasks.{AllBelow, IsAction};
+ghost use Rattle.task_kit.specs.Kept.{action_meaning};
+ghost use Rattle.task_kit.specs.declared.action.TaskAction.{TaskAction};
+
+use mre_base::{Bits, List, NoMemory};
+use std::alloc::Global;
+use task_kit::{Task, TaskAction};
+
+/// What an action needs, what it makes true and what it makes false, and its cost.
+#[derive(Clone, Copy)]
+pub struct Row<'a> {
+    pub pre: &'a [u32],
+    pub add: &'a [u32],
+    pub del: &'a [u32],
+    pub cost: Option<u32>,
+}
+
+pub fn action<'a>(pre: &'a [u32], add: &'a [u32], del: &'a [u32], cost: Option<u32>) -> Row<'a> {
+    Row {
+        pre,
+        add,
+        del,
+        cost,
+    }
+}
+
+/// The given numbers that are below the bound.
+pub fn list_below(alloc: Global, bound: u32, numbers: &[u32]) -> Result<List<u32>, NoMemory>
+    ensures { IfOk result (λ list. All (λ x. x < bound) list) }
+{
+    let mut list = List::empty(alloc);
+    for &number in numbers {
+        if number < bound {
+            list.push(number)?;
+        }
+    }
+    Ok(list)
+}
+
+/// The set of the given numbers that are below the bound.
+fn set_below(alloc: Global, width: u32, bound: u32, numbers: &[u32]) -> Result<Bits, NoMemory>
+    requires { bound ≤ width }
+    ensures { IfOk result (λ bits. (bits.width ≡ width) × AllBelow bound bits.members) }
+{
+    let mut bits = Bits::empty(alloc, width)?;
+    for &number in numbers {
+        if number < bound {
+            bits.put(number);
+        }
+    }
+    Ok(bits)
+}
+
+// The cost that the row names, which is in its range.
+fn cost_of(row: &Row<'_>) -> Option<u32>
+    ensures same { result ≡ row.now.cost }
+    ensures fits { unwrap_or result 0 < 2 ^ 32 }
+{
+    Some(row.cost?)
+}
+
+fn action_of(alloc: Global, atoms: u32, row: &Row<'_>) -> Result<TaskAction, NoMemory>
+    requires { atoms + 1 < 2 ^ 32 }
+    ensures { IfOk result (λ action. IsAction atoms (action_meaning action)) }
+{
+    Ok(TaskAction {
+        pre: list_below(alloc, atoms + 1, row.pre)?,
+        add: list_below(alloc, atoms, row.add)?,
+        del: list_below(alloc, atoms + 1, row.del)?,
+        cost: cost_of(row),
+    })
+}
+
+fn actions_of(alloc: Global, atoms: u32, rows: &[Row<'_>]) -> Result<List<TaskAction>, NoMemory>
+    requires { atoms + 1 < 2 ^ 32 }
+    ensures each { IfOk result (All (λ action. IsAction atoms (action_meaning action))) }
+    ensures count { IfOk result (λ actions. length actions ≡ length rows.now) }
+{
+    let mut actions = List::empty(alloc);
+    for row in rows {
+        actions.push(action_of(alloc, atoms, row)?)?;
+    }
+    Ok(actions)
+}
+
+pub fn task_of(
+    alloc: Global,
+    atoms: u32,
+    start: &[u32],
+    goal: &[u32],
+    rows: &[Row<'_>],
+) -> Result<Task, NoMemory>
+    requires atoms { atoms + 1 < 2 ^ 32 }
+    requires few { length rows.now < 2 ^ 32 }
+{
+    let start = set_below(alloc, atoms + 1, atoms, start)?;
+    let goal = set_below(alloc, atoms + 1, atoms + 1, goal)?;
+    let actions = actions_of(alloc, atoms, rows)?;
+    Ok(Task {
+        atoms,
+        start,
+        goal,
+        actions,
+    })
+}
