@@ -1,10 +1,10 @@
 -- The cuts that are found, round by round.
-use Rattle.std.proofs.Common.{◌≡◌, ℕ, ◌+◌, ◌≤◌, ◌<◌, Bool, true, false, cond, List, [], ◌∷◌, ◌++◌, length, refl, sym, ap, ◌∙◌, arith, subst, slice_index, Option, Some, None, slice_get, All}
+use Rattle.std.proofs.Common.{◌≡◌, ℕ, ◌+◌, ◌≤◌, ◌<◌, true, cond, List, [], ◌∷◌, ◌++◌, length, sym, ap, ◌∙◌, arith, subst, slice_index, None, All}
 use Rattle.std.proofs.lemmas.List.Elements.{All-nil}
 use Rattle.std.specs.FinSet as set
 use Rattle.std.specs.List.Sorted.{IsStrictlyIncreasing}
 use Rattle.task_kit.specs.declared.cut.Cut.{Cut}
-use Rattle.task_kit.specs.Cuts.{most, CutMeaning, counts, weight_of, IsCutOf}
+use Rattle.task_kit.specs.Cuts.{most, CutMeaning, IsCutOf}
 use Rattle.task_kit.specs.Kept.{all_but, cut_meaning, cuts_meaning}
 use Rattle.task_kit.specs.Tasks.{Numbers, TaskMeaning, IsTask, price}
 use Rattle.task_kit.proofs.PlaceLemmas.{length_pushed, none_some}

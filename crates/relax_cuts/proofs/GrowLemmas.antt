@@ -1,13 +1,13 @@
 -- How sets of atoms grow.
-use Rattle.std.proofs.Common.{◌≡◌, ℕ, zero, suc, ◌+◌, ◌≤◌, ◌<◌, Bool, true, false, ◌||◌, cond, nat_eq, List, length, Option, Some, None, slice_index, refl, sym, ap, ◌∙◌, arith, subst, ◌⊎◌, inl, inr}
-use Rattle.std.proofs.lemmas.Bool.{or_cases, or_left, or_right, eq-eqb, eqb-true, cases_lt, false≢true}
+use Rattle.std.proofs.Common.{◌≡◌, ℕ, zero, suc, ◌+◌, ◌≤◌, ◌<◌, Bool, true, false, cond, List, refl, sym, ap, ◌∙◌, arith, subst, ◌⊎◌, inl, inr}
+use Rattle.std.proofs.lemmas.Bool.{or_cases, or_left, or_right, eq-eqb, eqb-true, cases_lt}
 use Rattle.std.specs.Cmp.{nat_cmp_total}
 use Rattle.std.specs.FinSet as set
 use Rattle.std.specs.FinSet.{is_subset-contains, contains-is_subset}
 use Rattle.mre_base.proofs.SetsBelow.{contains-insert_nat}
-use Rattle.task_kit.specs.Tasks.{Numbers, TaskMeaning, AllBelow, IsTask, action_at, applies}
+use Rattle.task_kit.specs.Tasks.{Numbers, TaskMeaning, IsTask, action_at}
 use Rattle.task_kit.proofs.StepLemmas.{subset-trans, applies_more}
-use Rattle.relax_cuts.specs.Closing.{IsUsable, IsClosedUnder, IsLoose, Spreads, AddsSome}
+use Rattle.relax_cuts.specs.Closing.{IsUsable, IsLoose, Spreads, AddsSome}
 
 -- ---- one atom more
 pub subset-itself : (s : Numbers) → set.is_subset s s ≡ true

@@ -1,23 +1,22 @@
 -- What cuts leave of the costs of actions, and what follows for the cuts.
-use Rattle.std.proofs.Common.{◌≡◌, ℕ, ◌+◌, ◌^◌, ◌≤◌, ◌<◌, Bool, true, false, cond, List, [], ◌∷◌, ◌++◌, length, take, refl, sym, ap, ◌∙◌, arith, subst, ◌⊎◌, inl, inr, slice_index, unwrap_or, Option, Some, None, is_some, slice_get, All, ◌&&◌, not, min}
-use Rattle.std.proofs.lemmas.Bool.{cases_lt, and_parts, and_from, false≢true, false_from_ne_true, both_ways}
+use Rattle.std.proofs.Common.{◌≡◌, ℕ, ◌+◌, ◌^◌, ◌≤◌, ◌<◌, Bool, true, false, cond, List, [], ◌∷◌, ◌++◌, length, take, refl, sym, ap, ◌∙◌, arith, subst, inl, inr, slice_index, unwrap_or, Option, Some, None, is_some, slice_get, All, not, min}
+use Rattle.std.proofs.lemmas.Bool.{cases_lt, and_parts, false≢true, false_from_ne_true, both_ways}
 use Rattle.std.proofs.lemmas.List.{map-append, take-append-le, take_all}
-use Rattle.std.proofs.lemmas.List.Elements.{All-nil, All-push, All-head}
+use Rattle.std.proofs.lemmas.List.Elements.{All-push, All-head}
 use Rattle.std.proofs.lemmas.Option.{slice_get_past}
 use Rattle.std.specs.FinSet as set
 use Rattle.std.specs.Option.{ForSome}
-use Rattle.std.specs.List.Sorted.{IsStrictlyIncreasing}
 use Rattle.task_kit.specs.declared.cut.Cut.{Cut}
-use Rattle.task_kit.specs.Cuts.{most, CutMeaning, counts, weight_of, weights, IsCutOf, AreLawful}
-use Rattle.task_kit.specs.Kept.{all_but, cut_meaning, cuts_meaning}
-use Rattle.task_kit.specs.Tasks.{Numbers, ActionMeaning, TaskMeaning, IsTask, AllBelow, no_action, action_at, cost_at, price, applies}
+use Rattle.task_kit.specs.Cuts.{most, CutMeaning, counts, weight_of, IsCutOf}
+use Rattle.task_kit.specs.Kept.{cut_meaning, cuts_meaning}
+use Rattle.task_kit.specs.Tasks.{Numbers, ActionMeaning, TaskMeaning, IsTask, no_action, cost_at, price}
 use Rattle.task_kit.proofs.PlaceLemmas.{none_some, same_some, push_cases, place_within, length_pushed}
 use Rattle.task_kit.proofs.StepLemmas.{subset-trans}
 use Rattle.relax_cuts.specs.Closing.{IsUsable, IsClosedUnder, Spreads}
-use Rattle.relax_cuts.specs.FreeClosure.{IsFreelyClosed, IsFreeClosure, AreForced}
+use Rattle.relax_cuts.specs.FreeClosure.{IsFreeClosure, AreForced}
 use Rattle.relax_cuts.specs.Lean.{UsesUp, CountsNone, AreLean}
 use Rattle.task_kit.specs.Atoms.{lesser_of}
-use Rattle.relax_cuts.specs.Leaving.{is_counted, Leave, IsLeastLeft, IsWeight, IsCutSet, IsFormed, EachUsesUp, AreCuts}
+use Rattle.relax_cuts.specs.Leaving.{is_counted, Leave, IsLeastLeft, IsWeight, IsFormed, EachUsesUp}
 
 -- ---- sums of weights
 add_three : (a b c : ℕ) → a + (b + c) ≡ a + b + c

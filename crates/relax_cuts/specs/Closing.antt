@@ -1,6 +1,5 @@
 -- How a set of atoms grows by actions of whose cost little is left.
 use Rattle.std.specs.Prelude.{ℕ, ◌≡◌, ◌≤◌, ◌<◌, true, false, List, length, Option, Some, None, slice_index, ◌⊎◌}
-use Rattle.std.specs.Ordering.{nat_cmp}
 use Rattle.std.specs.FinSet as set
 use Rattle.task_kit.specs.Tasks.{Numbers, TaskMeaning, AllBelow, action_at, applies}
 

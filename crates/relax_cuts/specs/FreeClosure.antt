@@ -1,6 +1,5 @@
 -- What can be made true from a state at no cost, where nothing is deleted.
 use Rattle.std.specs.Prelude.{ℕ, ◌≡◌, ◌≤◌, true, false, List, Some}
-use Rattle.std.specs.Ordering.{nat_cmp}
 use Rattle.std.specs.FinSet as set
 use Rattle.task_kit.specs.Cuts.{CutMeaning, weights}
 use Rattle.task_kit.specs.Tasks.{Numbers, TaskMeaning, action_at, cost_at}

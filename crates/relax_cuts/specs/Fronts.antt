@@ -1,5 +1,5 @@
 -- Whether what the search for the values of atoms keeps is of a task's size.
-use Rattle.std.specs.Prelude.{ℕ, ◌+◌, ◌≡◌, length}
+use Rattle.std.specs.Prelude.{◌+◌, ◌≡◌, length}
 use Rattle.task_kit.specs.Tasks.{TaskMeaning}
 use Rattle.relax_cuts.specs.declared.values.Front.{Front}
 use Rattle.relax_cuts.specs.WaitingSize.{HasRoom}

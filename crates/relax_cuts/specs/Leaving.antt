@@ -1,10 +1,9 @@
 -- What cuts leave of the costs of the actions, and the cuts that were found so far.
-use Rattle.std.specs.Prelude.{ℕ, ◌+◌, ◌≡◌, ◌≤◌, ◌<◌, Bool, true, false, ◌&&◌, cond, List, length, take, Option, Some, None, slice_get, slice_index, All}
-use Rattle.std.specs.Ordering.{nat_cmp}
+use Rattle.std.specs.Prelude.{ℕ, ◌+◌, ◌≡◌, ◌≤◌, ◌<◌, Bool, true, false, ◌&&◌, List, length, take, Option, Some, None, slice_get, slice_index, All}
 use Rattle.std.specs.FinSet as set
 use Rattle.std.specs.List.Sorted.{IsStrictlyIncreasing}
 use Rattle.task_kit.specs.declared.cut.Cut.{Cut}
-use Rattle.task_kit.specs.Cuts.{most, CutMeaning, counts, weight_of, IsCutOf, AreLawful}
+use Rattle.task_kit.specs.Cuts.{CutMeaning, counts, weight_of, IsCutOf, AreLawful}
 use Rattle.task_kit.specs.Kept.{cuts_meaning}
 use Rattle.task_kit.specs.Tasks.{Numbers, TaskMeaning, AllBelow, price, applies, adds_outside}
 use Rattle.relax_cuts.specs.FreeClosure.{AreForced}

@@ -1,5 +1,5 @@
 -- Whether actions that wait for atoms are of a task.
-use Rattle.std.specs.Prelude.{ℕ, ◌≡◌, ◌<◌, Option, List, length, All}
+use Rattle.std.specs.Prelude.{ℕ, ◌<◌, Option, List, All}
 use Rattle.std.specs.Option.{ForSome}
 
 -- the action is below the bound, where there is one

@@ -1,8 +1,3 @@
-use Rattle.std.proofs.Common.{◌≡◌, ℕ, ◌<◌, List, length, Option, Some, None}
-use Rattle.std.specs.Option.{ForSome}
-use Rattle.task_kit.specs.Tasks.{Numbers, TaskMeaning}
-use Rattle.relax_cuts.specs.Closing.{IsClosedUnder}
-use Rattle.relax_cuts.specs.Leaving.{IsWeight}
 use Rattle.relax_cuts.proofs.LeaveLemmas.{above_all}
 use Rattle.relax_cuts.proofs.choosing.by_closure.Goals as goal
 

@@ -1,4 +1,4 @@
-use Rattle.std.proofs.Common.{◌<◌, ◌≡◌, length, All, sym, ap, ◌∙◌, subst, arith, true, Some, None}
+use Rattle.std.proofs.Common.{◌<◌, ◌≡◌, length, All, sym, ap, ◌∙◌, subst, arith}
 use Rattle.std.specs.FinSet as set
 use Rattle.task_kit.specs.Kept.{all_but}
 use Rattle.relax_cuts.specs.Leaving.{IsWeight}
