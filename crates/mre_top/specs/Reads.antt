@@ -5,12 +5,9 @@ use Rattle.mre_outside.specs.Shelves.{Files}
 use Rattle.mre_outside.specs.declared.shelf.Act.TheVariants.{Read}
 use Rattle.mre_outside.specs.declared.shelf.ShelfCall.{ShelfCall}
 pub use Rattle.request_answers.specs.Lines.{name_at}
+pub use Rattle.request_answers.specs.Texts.{file_limit, AreShort}
 use Rattle.mre_top.specs.declared.refusal.Refusal.{Refusal}
 use Rattle.mre_top.specs.declared.refusal.Refusal.TheVariants.{ReadFailed, TooLong, NoMemory}
-
--- how many bytes a file may have
-abbrev pub file_limit : ℕ
-file_limit = 4194304
 
 -- one read of a name, and whether it failed
 abbrev pub read_of : Bool → List ℕ → ShelfCall
@@ -28,11 +25,7 @@ asked_then asked calls = option_map (λ before. before ++ calls) asked
 pub record AreRead (held : Option Files) (names : List (List ℕ)) (contents : List (List ℕ)) : Type 0 where
   pub counted : length contents ≡ length names
   pub whole : IfSome held (λ files. map (files_map.get files) names ≡ map Some contents)
-  pub within : All (λ bytes. length bytes ≤ file_limit) contents
-
--- no content has more bytes than a file may have
-abbrev pub AreShort : List (List ℕ) → Type 0
-AreShort contents = All (λ bytes. length bytes ≤ file_limit) contents
+  pub within : AreShort contents
 
 -- each of the names can be read whole
 abbrev pub AreReadable : Option Files → List (List ℕ) → Type 0

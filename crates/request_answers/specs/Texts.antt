@@ -15,9 +15,13 @@ use Rattle.mre_words.specs.declared.request.Request.TheVariants.{Explain, Diff, 
 abbrev pub text_at : List (List ℕ) → ℕ → List ℕ
 text_at contents place = slice_index_or contents place []
 
+-- how many bytes a file may have
+abbrev pub file_limit : ℕ
+file_limit = 4194304
+
 -- no content has more bytes than a file may have
 abbrev pub AreShort : List (List ℕ) → Type 0
-AreShort contents = All (λ bytes. length bytes ≤ 4194304) contents
+AreShort contents = All (λ bytes. length bytes ≤ file_limit) contents
 
 -- each request but that for all differences has a plan
 abbrev pub has_plan : Request → Bool
