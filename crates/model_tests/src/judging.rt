@@ -3,7 +3,6 @@ ghost use Rattle.model_kit.specs.Judgement.{NamesAtoms};
 ghost use Rattle.pddl_read.specs.Texts.{AreFew};
 
 use crate::tables::{in_lines, model};
-use joint_models::join_models;
 use model_kit::{Model, NamedJudgement, Plan, Vocabulary, judge_names, print_atom};
 use pddl_read::read_plan;
 use std::alloc::Global;
@@ -133,25 +132,6 @@ fn steps_cost_what_their_roads_cost(rt: HostRuntime) -> Result<(), Fail> {
         (go b c) => step 1 needs (at b)\n\
         (ride)|(ride)|(go a b) => step 3 has no cost";
     assert_judgements(&rt, rt.alloc(), ROADS, problem, rows)
-}
-
-#[test]
-fn a_step_by_an_unknown_action_has_no_cost(rt: HostRuntime) -> Result<(), Fail> {
-    let alloc = rt.alloc();
-    let domain = "(define (domain roads) (:constants a b c)\n\
-        (:predicates (link ?x ?y) (at ?x)) (:functions (total-cost) (road ?x ?y))\n\
-        (:action go :parameters (?x ?y) :precondition (and (link ?x ?y) (at ?x))\n\
-         :effect (and (at ?y) (not (at ?x)) (increase (total-cost) (road ?x ?y)))))";
-    let planner = model(&rt, alloc, ROADS, TO_C)?;
-    let user = model(&rt, alloc, domain, TO_C)?;
-    assert!(rt; planner.unknown.is_empty());
-    assert!(rt; user.unknown.is_empty());
-    let joint = join_models(alloc, planner, user)?;
-    let rows = "(ride) => step 1 has no cost\n\
-        (go a b)|(ride) => step 2 needs (at a)\n\
-        (go a b)|(go b c) => valid 11";
-    assert_judged(&rt, alloc, &joint.user, rows)?;
-    assert_judged(&rt, alloc, &joint.planner, "(ride) => valid 10")
 }
 
 #[test]

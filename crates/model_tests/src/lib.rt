@@ -1,12 +1,6 @@
-//! What is said of models, from texts of PDDL to texts: judgements, disagreements, differences and explanations.
+//! What is said of models: judgements of plans, from texts of PDDL, and which lists are a vocabulary's or a model's.
 #![tactic(auto)]
 
-#[cfg(test)]
-mod differing;
-#[cfg(test)]
-mod explaining;
-#[cfg(test)]
-mod joining;
 #[cfg(test)]
 mod judging;
 #[cfg(test)]

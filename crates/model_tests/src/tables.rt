@@ -2,9 +2,7 @@
 ghost use Rattle.std.specs.Prelude.{◌^◌, IfOk};
 ghost use Rattle.pddl_read.specs.Texts.{AreFew};
 
-use feature_diff::Pair;
 use model_kit::Model;
-use mre_base::{List, Text};
 use pddl_read::{Domain, read_domain, read_problem};
 use std::alloc::Global;
 use std::process::Abort;
@@ -43,26 +41,4 @@ pub fn model(rt: &impl Abort, alloc: Global, domain_text: &str, text: &str) -> R
         Ok(model) => Ok(model),
         Err(_) => Err(Fail::from("no problem")),
     }
-}
-
-/// The planner's domain and problem, and the user's.
-pub type Texts<'a> = [&'a str; 4];
-
-/// The two models of four texts, side by side.
-pub fn pair_of(rt: &impl Abort, alloc: Global, texts: Texts<'_>) -> Result<Pair, Fail> {
-    let [pd, pp, ud, up] = texts;
-    let planner = model(rt, alloc, pd, pp)?;
-    let user = model(rt, alloc, ud, up)?;
-    assert!(rt; planner.unknown.is_empty());
-    assert!(rt; user.unknown.is_empty());
-    Ok(Pair::pair(alloc, planner, user)?)
-}
-
-/// Lines as one text.
-pub fn joined(alloc: Global, lines: &List<Text>) -> Result<String, Fail> {
-    let mut text = String::new(alloc);
-    for place in 0..lines.len() {
-        text.push_str(lines.item(place).as_str())?;
-    }
-    Ok(text)
 }

@@ -1,12 +1,8 @@
 mod counts;
-mod disagreements;
 mod explanations;
 mod failing_calls;
-mod faults;
-mod lists;
 mod making;
 mod order;
-mod plans;
 mod reads;
 mod requests;
 mod texts;

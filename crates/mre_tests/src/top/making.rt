@@ -132,10 +132,3 @@ pub fn assert_ends<'a>(
         &(words, [pd, pp, ud, up, plan], status, told, written),
     )
 }
-
-pub fn assert_rows(rt: &impl Abort, alloc: Global, rows: &[Row<'_>]) -> Result<(), Fail> {
-    for row in rows {
-        assert_row(rt, alloc, row)?;
-    }
-    Ok(())
-}

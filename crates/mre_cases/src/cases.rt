@@ -1,0 +1,109 @@
+use crate::calling::call;
+use mre_base::NoMemory;
+use std::alloc::Global;
+
+/// A text under its name.
+#[derive(Drop)]
+struct Named {
+    name: String,
+    text: String,
+}
+
+/// What the lines up to now have said: the texts, the one that isn't ended yet, and the words of the next call.
+#[derive(Drop)]
+pub struct Cases {
+    texts: Vec<Named>,
+    open: Option<Named>,
+    words: String,
+}
+
+impl Cases {
+    pub fn new(alloc: Global) -> Cases {
+        Cases {
+            texts: Vec::new(alloc),
+            open: None,
+            words: String::new(alloc),
+        }
+    }
+
+    /// Takes one line, and gives what is to be printed.
+    pub fn take(&mut self, alloc: Global, line: &str) -> Result<String, NoMemory> {
+        match self.open.take() {
+            Some(open) => self.go_on(open, line)?,
+            None => match line.strip_prefix("text ") {
+                Some(name) => self.begin(alloc, name)?,
+                None => return self.say(alloc, line),
+            },
+        }
+        Ok(String::new(alloc))
+    }
+
+    fn begin(&mut self, alloc: Global, name: &str) -> Result<(), NoMemory> {
+        self.open = Some(Named {
+            name: String::from_str(alloc, name)?,
+            text: String::new(alloc),
+        });
+        Ok(())
+    }
+
+    // A line of a text, or its end.
+    fn go_on(&mut self, open: Named, line: &str) -> Result<(), NoMemory> {
+        let Named { name, mut text } = open;
+        if line == "cut" {
+            let _last = text.pop();
+        }
+        if line == "end" || line == "cut" {
+            self.texts.push(Named { name, text })?;
+            return Ok(());
+        }
+        text.push_str(line)?;
+        text.push_str("\n")?;
+        self.open = Some(Named { name, text });
+        Ok(())
+    }
+
+    // A line outside of texts: the words of a call, or what it is over.
+    fn say(&mut self, alloc: Global, line: &str) -> Result<String, NoMemory> {
+        let Some(names) = line.strip_prefix("over ") else {
+            self.words = String::from_str(alloc, line)?;
+            return Ok(String::new(alloc));
+        };
+        let ended = call(alloc, self.words.as_str(), self.five(names))?;
+        let words = self.words.as_str();
+        Ok(format!(in alloc; "{words} over {names}\n{ended}")?)
+    }
+
+    // The texts with these names.
+    fn five(&self, names: &str) -> [&str; 5] {
+        [
+            self.text(word(names, 0)),
+            self.text(word(names, 1)),
+            self.text(word(names, 2)),
+            self.text(word(names, 3)),
+            self.text(word(names, 4)),
+        ]
+    }
+
+    // The last text with a name, or an empty one.
+    fn text(&self, name: &str) -> &str {
+        let mut found = "";
+        for named in &self.texts {
+            if named.name.as_str() == name {
+                found = named.text.as_str();
+            }
+        }
+        found
+    }
+}
+
+// The word at a place, counted from 0.
+fn word(line: &str, place: usize) -> &str {
+    let mut left = place;
+    for word in line.split(' ') {
+        if left == 0 {
+            return word;
+        }
+        left -= 1;
+    }
+    ""
+}
