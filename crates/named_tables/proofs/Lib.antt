@@ -6,3 +6,4 @@ pub mod PriceLemmas
 pub mod ReachLemmas
 pub mod StepLemmas
 pub mod TableLemmas
+pub mod WorldLemmas

@@ -9,9 +9,20 @@ use Rattle.case_kit.specs.declared.costs.CaseCost.{CaseCost}
 use Rattle.case_kit.specs.declared.table.CaseTable.{CaseTable}
 use Rattle.case_kit.specs.Parts.{has_cost}
 use Rattle.case_kit.specs.Sound.{is_apart, is_beside}
+use Rattle.reach_kit.specs.declared.world.World.{World}
+use Rattle.reach_kit.specs.declared.world.Limits.{Limits}
+use Rattle.reach_kit.specs.declared.world.Reached.{Reached}
+use Rattle.reach_kit.specs.Relaxed as rules
 use Rattle.named_tables.specs.Models.{Models, HasSomeCost}
 use Rattle.named_tables.specs.Numbered.{ListsReachable, RunsAsNamed}
 use Rattle.named_tables.specs.Tables.{IsWhen, IsCostOf, IsTableOf}
+use Rattle.named_tables.specs.Worlds.{AreRulesOf}
+
+-- what is reachable by the rules of two models is reachable in them
+abbrev pub ReachLaw : Type 0
+ReachLaw =
+    (models : Models) (world : World) (limits : Limits) (reached : Reached) → AreRulesOf models world → rules.ListsReachable world limits reached →
+    ListsReachable models reached.atoms reached.actions
 
 -- whatever is told, lists of numbers run in the table of what may be reached as lists of ground actions run in the models
 abbrev pub RunLaw : Type 0

@@ -4,3 +4,4 @@ pub mod Models
 pub mod Numbered
 pub mod Reachable
 pub mod Tables
+pub mod Worlds

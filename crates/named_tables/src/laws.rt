@@ -1,5 +1,10 @@
 ghost use Rattle.named_tables.specs.Example.{ExampleLaw};
-ghost use Rattle.named_tables.specs.Laws.{PricedLaw, RunLaw};
+ghost use Rattle.named_tables.specs.Laws.{PricedLaw, ReachLaw, RunLaw};
+
+/// The search for what is reachable by the rules of two models finds what is reachable in them.
+pub fn law_reachable()
+    ensures { ReachLaw }
+{}
 
 /// In a table of two models that lists what may be reached, a list of numbers is to each member what the list of ground actions with
 /// these numbers is to the user's model after the same differences: valid there exactly where it is valid here, at the same cost, and

@@ -3,4 +3,4 @@
 
 mod laws;
 
-pub use laws::{law_example, law_priced, law_runs};
+pub use laws::{law_example, law_priced, law_reachable, law_runs};
