@@ -4,8 +4,6 @@
 mod cube;
 mod laws;
 mod order;
-#[cfg(test)]
-mod tests;
 mod weights;
 
 pub use cube::Cube;

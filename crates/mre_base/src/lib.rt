@@ -9,8 +9,6 @@ mod node;
 mod node_log;
 mod places;
 mod steps;
-#[cfg(test)]
-mod tests;
 mod text;
 mod words;
 

@@ -19,6 +19,4 @@ pub use shelf::{Act, PutStop, Shelf, ShelfCall, ShelfStop};
 pub use sink::{Sink, SinkStop};
 pub use sound_sink::SoundSink;
 pub use std_sink::StdSink;
-
-#[cfg(test)]
-mod tests;
+pub use stream::{WriteFailed, read_from, write_to};

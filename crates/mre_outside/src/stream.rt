@@ -15,26 +15,26 @@ const CHUNK: usize = 65536;
 
 /// A writer failed, or took nothing.
 #[derive(Clone, Copy)]
-pub(crate) struct Failed;
+pub struct WriteFailed;
 
-impl From<Failed> for SinkStop {
+impl From<WriteFailed> for SinkStop {
     ghost use Rattle.std.specs.Prelude.{◌≡◌};
     ghost use Rattle.mre_outside.specs.declared.sink.SinkStop.TheVariants as stop;
 
     ghost from_gives = { λ _ given. given ≡ stop.Failed };
 
-    fn from(_failure: Failed) -> SinkStop {
+    fn from(_failure: WriteFailed) -> SinkStop {
         SinkStop::Failed
     }
 }
 
-impl From<Failed> for PutStop {
+impl From<WriteFailed> for PutStop {
     ghost use Rattle.std.specs.Prelude.{◌≡◌};
     ghost use Rattle.mre_outside.specs.declared.shelf.PutStop.TheVariants as stop;
 
     ghost from_gives = { λ _ given. given ≡ stop.Failed };
 
-    fn from(_failure: Failed) -> PutStop {
+    fn from(_failure: WriteFailed) -> PutStop {
         PutStop::Failed
     }
 }
@@ -47,12 +47,12 @@ pub(crate) fn raise(faults: &mut u64)
     *faults = faults.saturating_add(1);
 }
 
-/// Writes all the bytes. A writer that takes nothing has failed.
-pub(crate) fn write_to<W: Write>(
+/// Writes all the bytes. A writer that takes nothing has failed, and then a prefix of them may be written.
+pub fn write_to<W: Write>(
     writer: &mut W,
     bytes: &[u8],
     faults: &mut u64,
-) -> Result<(), Failed>
+) -> Result<(), WriteFailed>
     ensures ok { OnOk result (Appends (W.contents writer.old) (W.contents writer.new) bytes.now) }
     ensures failed { IsErr result → Rose faults.old faults.new }
     ensures part { IsErr result
@@ -70,19 +70,19 @@ pub(crate) fn write_to<W: Write>(
             Err(error) => {
                 raise(faults);
                 if error.kind() != ErrorKind::Interrupted {
-                    return Err(Failed);
+                    return Err(WriteFailed);
                 }
             }
         }
     }
     // It took nothing, or was interrupted at every turn.
     raise(faults);
-    Err(Failed)
+    Err(WriteFailed)
 }
 
 /// Reads to the end, where that comes after at most `limit` bytes, and asks for one byte more than
 /// `limit` at most. What is read goes into `room`, so no memory is taken.
-pub(crate) fn read_from<R: Read>(
+pub fn read_from<R: Read>(
     reader: &mut R,
     room: Vec<u8>,
     limit: u32,

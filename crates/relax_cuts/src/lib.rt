@@ -7,8 +7,6 @@ mod closing;
 mod cutting;
 mod lacking;
 mod leaving;
-#[cfg(test)]
-mod tests;
 mod values;
 mod waiting;
 mod zoning;

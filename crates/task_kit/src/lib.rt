@@ -11,8 +11,6 @@ mod queue;
 mod reached;
 mod searching;
 mod task;
-#[cfg(test)]
-mod tests;
 mod view;
 
 pub use action::TaskAction;

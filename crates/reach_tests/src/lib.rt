@@ -1,0 +1,7 @@
+//! What is reachable in small worlds.
+#![tactic(auto)]
+
+#[cfg(test)]
+mod checking;
+#[cfg(test)]
+mod reaching;

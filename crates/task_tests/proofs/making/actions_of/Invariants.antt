@@ -1,0 +1,11 @@
+use Rattle.std.proofs.Common.{◌≡◌, All, length}
+use Rattle.task_kit.specs.Tasks.{IsAction}
+use Rattle.task_kit.specs.Kept.{action_meaning}
+use Rattle.task_tests.proofs.making.actions_of.Given as goal
+
+abbrev pub invariant-loop-row : goal.invariant-loop-row
+invariant-loop-row l =
+    record {
+      each : All (λ action. IsAction l.atoms (action_meaning action)) l.actions;
+      count : length l.actions ≡ l.row-index;
+    }
