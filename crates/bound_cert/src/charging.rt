@@ -4,9 +4,8 @@ ghost use Rattle.task_kit.specs.Cuts.{most};
 ghost use Rattle.task_kit.specs.Tasks.{price};
 ghost use Rattle.bound_cert.specs.Rooms.{charge_by, AreCharged};
 
-use crate::price::price_of;
 use mre_base::Bits;
-use task_kit::TaskView;
+use task_kit::{TaskView, price_of};
 
 // What an action is charged once a cut is added, where that is no more than it costs.
 fn charge_one<T: TaskView>(

@@ -7,10 +7,9 @@ ghost use Rattle.bound_cert.specs.Lines.{Line, OfExpanded, LacksSuccessor, Break
 ghost use Rattle.bound_cert.specs.Proven.{IsThere, numbered};
 
 use crate::looking::is_within;
-use crate::price::price_of;
 use crate::proof::{BoundRule, BoundState};
 use mre_base::{Bits, List};
-use task_kit::TaskView;
+use task_kit::{TaskView, price_of};
 
 // Whether the successor by an action costs too much or is listed, where there is one.
 fn has_successor<T: TaskView>(

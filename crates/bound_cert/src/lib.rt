@@ -7,7 +7,6 @@ mod cutting;
 mod expanding;
 mod laws;
 mod looking;
-mod price;
 mod proof;
 mod pruning;
 mod scratch;
