@@ -20,8 +20,8 @@ use Rattle.named_tables.specs.Tables.{IsNumber, IsWhen, AreCases}
 use Rattle.named_tables.proofs.NumberLemmas.{told_is}
 
 -- the numbers of the set are those of the atoms with a property
-abbrev pub AreNumbersOf : (GroundAtom → ℕ) → (GroundAtom → Type 0) → Numbers → Type 0
-AreNumbersOf number IsSo numbers = (i : ℕ) → (set.contains numbers i ≡ true) ↔ ((atom : GroundAtom) × IsSo atom × (number atom ≡ i))
+abbrev pub AreNumbered : (GroundAtom → ℕ) → (GroundAtom → Type 0) → Numbers → Type 0
+AreNumbered number IsSo numbers = (i : ℕ) → (set.contains numbers i ≡ true) ↔ ((atom : GroundAtom) × IsSo atom × (number atom ≡ i))
 
 module _ (models : Models) (told : Told) where
   -- the number of the difference at a place decides whether the place is told
@@ -69,7 +69,7 @@ module _ (models : Models) (told : Told) where
 
   -- the atoms of the cases that hold are those of the features that are there
   pub case_numbers : (number : GroundAtom → ℕ) (F : Type 0) (place : F → Place) (atom : F → GroundAtom) (cases : List Case) → AreCases models number F place atom cases
-      → AreNumbersOf number (λ a. (f : F) × Has (after_told models told) (place f) × (atom f ≡ a)) (atoms_after told cases)
+      → AreNumbered number (λ a. (f : F) × Has (after_told models told) (place f) × (atom f ≡ a)) (atoms_after told cases)
   case_numbers number F place atom cases are i = (
     λ there. let (case, among, on, is) = in_where (holds told) cases i there in
         let (f, (named, when)) = are.each case among in

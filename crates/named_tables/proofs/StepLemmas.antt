@@ -15,13 +15,13 @@ use Rattle.task_kit.specs.Tasks as numbered
 use Rattle.task_kit.specs.Tasks.{Numbers, ActionMeaning, TaskMeaning, action_at, cost_at, price, applies, after, IsValidFrom}
 use Rattle.task_kit.proofs.StepLemmas.{contains-after}
 use Rattle.named_tables.specs.Numbered as run
-use Rattle.named_tables.proofs.CaseLemmas.{AreNumbersOf}
+use Rattle.named_tables.proofs.CaseLemmas.{AreNumbered}
 
 -- an action in numbers
 pub record IsActionIn (n : ℕ) (number : GroundAtom → ℕ) (model : Meaning) (action : GroundAction) (a : ActionMeaning) : Type 0 where
-  pub pre : AreNumbersOf number (Needs model action) a.pre
-  pub add : AreNumbersOf number (Adds model action) a.add
-  pub del : AreNumbersOf number (Deletes model action) a.del
+  pub pre : AreNumbered number (Needs model action) a.pre
+  pub add : AreNumbered number (Adds model action) a.add
+  pub del : AreNumbered number (Deletes model action) a.del
   pub cost : cost_of model action ≡ a.cost
   pub listed : (atom : GroundAtom) → Adds model action atom → number atom < n
 
@@ -29,8 +29,8 @@ pub record IsActionIn (n : ℕ) (number : GroundAtom → ℕ) (model : Meaning) 
 pub record IsModelIn (n : ℕ) (number : GroundAtom → ℕ) (actions : List GroundAction) (model : Meaning) (task : TaskMeaning) : Type 0 where
   pub most : (atom : GroundAtom) → number atom ≤ n
   pub one : (a b : GroundAtom) → number a < n → number a ≡ number b → a ≡ b
-  pub start : AreNumbersOf number (λ atom. Has model (Init atom)) task.start
-  pub goal : AreNumbersOf number (λ atom. Has model (Goal atom)) task.goal
+  pub start : AreNumbered number (λ atom. Has model (Init atom)) task.start
+  pub goal : AreNumbered number (λ atom. Has model (Goal atom)) task.goal
   pub each : (k : ℕ) (action : GroundAction) → slice_get actions k ≡ Some action → IsActionIn n number model action (action_at task k)
   pub past : (k : ℕ) → slice_get actions k ≡ None → cost_at task k ≡ None
   pub listed : (atom : GroundAtom) → Has model (Init atom) → number atom < n
@@ -59,7 +59,7 @@ module _ (n : ℕ) (number : GroundAtom → ℕ) (actions : List GroundAction) (
   }
 
   -- what is wanted is there exactly where its numbers are
-  wanted : (state : State) (bits : Numbers) → Stands state bits → (P : GroundAtom → Type 0) (numbers : Numbers) → AreNumbersOf number P numbers →
+  wanted : (state : State) (bits : Numbers) → Stands state bits → (P : GroundAtom → Type 0) (numbers : Numbers) → AreNumbered number P numbers →
       ((atom : GroundAtom) → P atom → state atom) ↔ (set.is_subset numbers bits ≡ true)
   wanted state bits stands P numbers are = (
     λ met. contains-is_subset nat_cmp_total numbers bits (λ k there. let (atom, so, at) = (are k).0 there in

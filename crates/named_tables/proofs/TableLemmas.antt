@@ -19,7 +19,7 @@ use Rattle.named_tables.specs.Models.{Models, after_told}
 use Rattle.named_tables.specs.Reachable.{Reachable, Atom, Initial, Added}
 use Rattle.named_tables.specs.Numbered.{ListsReachable}
 use Rattle.named_tables.specs.Tables.{number_in, IsTableOf}
-use Rattle.named_tables.proofs.CaseLemmas.{AreNumbersOf, either_has, case_numbers}
+use Rattle.named_tables.proofs.CaseLemmas.{AreNumbered, either_has, case_numbers}
 use Rattle.named_tables.proofs.NumberLemmas.{number_most, number_listed, number_there}
 use Rattle.named_tables.proofs.PriceLemmas.{cost_is}
 use Rattle.named_tables.proofs.StepLemmas.{IsActionIn, IsModelIn}
@@ -28,7 +28,7 @@ some_is : {X : Type 0} (x y : X) → Some x ≡ Some y → x ≡ y
 some_is x y e = ap (λ o. unwrap_or o x) e
 
 -- the atoms of facts are the facts
-fact_numbers : (number : GroundAtom → ℕ) (IsSo : GroundAtom → Type 0) (numbers : Numbers) → AreNumbersOf number (λ a. (f : GroundAtom) × IsSo f × (f ≡ a)) numbers → AreNumbersOf number IsSo numbers
+fact_numbers : (number : GroundAtom → ℕ) (IsSo : GroundAtom → Type 0) (numbers : Numbers) → AreNumbered number (λ a. (f : GroundAtom) × IsSo f × (f ≡ a)) numbers → AreNumbered number IsSo numbers
 fact_numbers number IsSo numbers are i = (
   λ there. let (a, (f, so, is), at) = (are i).0 there in (a, subst IsSo is so, at),
   λ (a, so, at). (are i).1 (a, (a, so, refl), at),
