@@ -1,6 +1,7 @@
 ghost use Rattle.std.specs.Prelude.{◌≡◌, [], IfOk};
 ghost use Rattle.model_kit.specs.Pairs.{Agree, ArePaired};
 ghost use Rattle.joint_models.specs.Disagreements.{IfDiffers, IsFirstDisagreement};
+ghost use Rattle.joint_models.specs.Lists.{AreListsOf};
 
 use crate::PairStop;
 use crate::agreeing::agree;
@@ -37,31 +38,50 @@ pub fn join_models(alloc: Global, planner: Model, user: Model) -> Result<JointMo
         &planner_lists,
         &user_lists,
     )?;
+    joined(alloc, &planner, &user, &planner_lists, &user_lists)
+}
+
+// Two models that agree, in the numbers of their joint vocabulary.
+fn joined(
+    alloc: Global,
+    planner: &Model,
+    user: &Model,
+    planner_lists: &Lists,
+    user_lists: &Lists,
+) -> Result<JointModels, PairStop>
+    requires agree { Agree planner.now.words user.now.words }
+    requires planner_whole { planner.now.unknown ≡ [] }
+    requires user_whole { user.now.unknown ≡ [] }
+    requires planner_are { AreListsOf planner.now.words planner_lists.now }
+    requires user_are { AreListsOf user.now.words user_lists.now }
+    ensures ok { IfOk result (λ joint. ArePaired planner.now user.now joint.planner.words joint.planner joint.user) }
+    ensures differs { IfDiffers result (λ fault. ⊥) }
+{
     let words = joint_words(
         alloc,
         &planner.words,
         &user.words,
-        &planner_lists,
-        &user_lists,
+        planner_lists,
+        user_lists,
     )?;
     let user_words = joint_words(
         alloc,
         &planner.words,
         &user.words,
-        &planner_lists,
-        &user_lists,
+        planner_lists,
+        user_lists,
     )?;
     let joint_lists = Lists::of(alloc, &words)?;
-    let planner_numbers = Numbers::between(alloc, &planner_lists, &joint_lists)?;
-    let user_numbers = Numbers::between(alloc, &user_lists, &joint_lists)?;
+    let planner_numbers = Numbers::between(alloc, planner_lists, &joint_lists)?;
+    let user_numbers = Numbers::between(alloc, user_lists, &joint_lists)?;
     let own = Part {
-        model: &planner,
-        lists: &planner_lists,
+        model: planner,
+        lists: planner_lists,
         numbers: &planner_numbers,
     };
     let other = Part {
-        model: &user,
-        lists: &user_lists,
+        model: user,
+        lists: user_lists,
         numbers: &user_numbers,
     };
     let joint_planner = model_in(alloc, words, own, other)?;
