@@ -12,11 +12,21 @@ pub enum How {
 
 /// A state with a number, and how it was left: every list from it to the goal costs so much that it comes with the number to at least
 /// the bound.
-#[derive(Debug, Drop)]
+#[derive(Debug)]
 pub struct BoundState {
     pub number: u64,
     pub state: Bits,
     pub how: How,
+}
+
+impl Drop for BoundState {
+    fn drop(self) {
+        let BoundState {
+            number: _,
+            state: _,
+            how: _,
+        } = self;
+    }
 }
 
 /// A proof that no valid list of a task costs less than `k`. The states ascend strictly by their lists of atoms.

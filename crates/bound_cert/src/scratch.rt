@@ -6,7 +6,6 @@ use std::alloc::Global;
 use task_kit::TaskView;
 
 /// The room in which the bound proofs of one task are checked.
-#[derive(Drop)]
 pub struct Scratch {
     // A successor.
     pub(crate) into: Bits,
@@ -16,6 +15,17 @@ pub struct Scratch {
     pub(crate) all: Bits,
     // What the cuts of a state charge each action.
     pub(crate) charged: Vec<u64>,
+}
+
+impl Drop for Scratch {
+    fn drop(self) {
+        let Scratch {
+            into: _,
+            among: _,
+            all: _,
+            charged: _,
+        } = self;
+    }
 }
 
 impl Scratch {

@@ -7,13 +7,25 @@ use mre_base::List;
 
 /// A ground action in all models: the cases of its preconditions, adds and deletes, its cost, and when a model knows it. Where it isn't
 /// known it has no cost.
-#[derive(Debug, Drop)]
+#[derive(Debug)]
 pub struct CaseAction {
     pub pre: List<Case>,
     pub add: List<Case>,
     pub del: List<Case>,
     pub cost: CaseCost,
     pub known: When,
+}
+
+impl Drop for CaseAction {
+    fn drop(self) {
+        let CaseAction {
+            pre: _,
+            add: _,
+            del: _,
+            cost: _,
+            known: _,
+        } = self;
+    }
 }
 
 fn any_speaks_of(cases: &List<Case>, number: u32) -> bool

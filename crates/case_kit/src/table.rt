@@ -16,7 +16,7 @@ use task_kit::{Task, TaskAction};
 
 /// The tasks of all sets of the differences 1 to `d`: each condition and each cost says how it is where a set is told and the rest is
 /// left. Atoms count from 0, and `atoms` stands for all that can never be true.
-#[derive(Debug, Drop)]
+#[derive(Debug)]
 pub struct CaseTable {
     pub d: u32,
     pub atoms: u32,
@@ -24,6 +24,18 @@ pub struct CaseTable {
     pub goal: List<Case>,
     pub actions: List<CaseAction>,
     pub ghost sound: { IsCaseTable d atoms start goal actions },
+}
+
+impl Drop for CaseTable {
+    fn drop(self) {
+        let CaseTable {
+            d: _,
+            atoms: _,
+            start: _,
+            goal: _,
+            actions: _,
+        } = self;
+    }
 }
 
 fn copy_cases(alloc: Global, cases: &List<Case>) -> Result<List<Case>, NoMemory>

@@ -16,11 +16,20 @@ use std::alloc::Global;
 
 /// The planner's model and the user's, both in the numbers of their joint vocabulary: the planner's entries with their numbers, and
 /// after them the predicates, functions and actions that the user alone has.
-#[derive(Debug, Drop)]
+#[derive(Debug)]
 pub struct Pair {
     pub planner: Model,
     pub user: Model,
     pub ghost joint: { user.words ≡ planner.words },
+}
+
+impl Drop for Pair {
+    fn drop(self) {
+        let Pair {
+            planner: _,
+            user: _,
+        } = self;
+    }
 }
 
 /// Why the differences are not listed.

@@ -15,10 +15,15 @@ pub(crate) struct Spots {
 }
 
 // A printed form, and where it stands.
-#[derive(Drop)]
 pub(crate) struct Row {
     pub(crate) form: Text,
     pub(crate) spots: Spots,
+}
+
+impl Drop for Row {
+    fn drop(self) {
+        let Row { form: _, spots: _ } = self;
+    }
 }
 
 // The forms of two lists in ASCII order, each once, with where it stands in either.

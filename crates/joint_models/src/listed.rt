@@ -8,11 +8,19 @@ use std::alloc::Global;
 use std::collections::BTreeMap;
 
 /// Entries with names and the numbers of types, found by their names.
-#[derive(Drop)]
 pub(crate) struct Listed {
     pub(crate) entries: List<Signature>,
     places: BTreeMap<String, usize>,
     ghost found: { ArePlaces entries places },
+}
+
+impl Drop for Listed {
+    fn drop(self) {
+        let Listed {
+            entries: _,
+            places: _,
+        } = self;
+    }
 }
 
 impl Listed {

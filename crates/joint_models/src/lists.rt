@@ -8,13 +8,24 @@ use mre_base::NoMemory;
 use std::alloc::Global;
 
 /// All that a vocabulary lists, found by names.
-#[derive(Drop)]
 pub(crate) struct Lists {
     pub(crate) types: Listed,
     pub(crate) objects: Listed,
     pub(crate) actions: Listed,
     pub(crate) predicates: Listed,
     pub(crate) functions: Listed,
+}
+
+impl Drop for Lists {
+    fn drop(self) {
+        let Lists {
+            types: _,
+            objects: _,
+            actions: _,
+            predicates: _,
+            functions: _,
+        } = self;
+    }
 }
 
 impl Lists {

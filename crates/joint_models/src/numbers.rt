@@ -9,11 +9,20 @@ use mre_base::{List, NoMemory};
 use std::alloc::Global;
 
 /// Of each word of one vocabulary its number in another.
-#[derive(Drop)]
 pub(crate) struct Numbers {
     pub(crate) objects: List<u32>,
     pub(crate) predicates: List<u32>,
     pub(crate) functions: List<u32>,
+}
+
+impl Drop for Numbers {
+    fn drop(self) {
+        let Numbers {
+            objects: _,
+            predicates: _,
+            functions: _,
+        } = self;
+    }
 }
 
 impl Numbers {

@@ -4,10 +4,19 @@ ghost use Rattle.joint_models.specs.declared.stop.PairStop.TheVariants.{NoMemory
 use mre_base::{NoMemory, Text};
 
 /// The first disagreement of two models: what either has there, or `none`.
-#[derive(Debug, Drop)]
+#[derive(Debug)]
 pub struct PairFault {
     pub planner: Text,
     pub user: Text,
+}
+
+impl Drop for PairFault {
+    fn drop(self) {
+        let PairFault {
+            planner: _,
+            user: _,
+        } = self;
+    }
 }
 
 /// Why two models have no joint vocabulary: they disagree, or memory ran out.

@@ -13,7 +13,7 @@ pub enum CostExpr {
 }
 
 /// An action schema: its preconditions, the atoms that it adds and deletes, and its cost.
-#[derive(Debug, Drop)]
+#[derive(Debug)]
 pub struct Schema {
     pub pre: List<SchemaAtom>,
     pub add: List<SchemaAtom>,
@@ -21,8 +21,19 @@ pub struct Schema {
     pub cost: CostExpr,
 }
 
+impl Drop for Schema {
+    fn drop(self) {
+        let Schema {
+            pre: _,
+            add: _,
+            del: _,
+            cost: _,
+        } = self;
+    }
+}
+
 /// A planning model (STRIPS with types and action costs), by the numbers of its words.
-#[derive(Debug, Drop)]
+#[derive(Debug)]
 pub struct Model {
     pub words: Vocabulary,
     /// The atoms that are true at the start.
@@ -35,4 +46,17 @@ pub struct Model {
     /// The schemas that the model doesn't know.
     pub unknown: List<u32>,
     pub ghost sound: { IsTrue (is_model words init goal schemas values unknown) },
+}
+
+impl Drop for Model {
+    fn drop(self) {
+        let Model {
+            words: _,
+            init: _,
+            goal: _,
+            schemas: _,
+            values: _,
+            unknown: _,
+        } = self;
+    }
 }

@@ -4,14 +4,20 @@ ghost use Rattle.model_kit.specs.Words.{is_vocabulary};
 use mre_base::{List, Text};
 
 /// The name of a predicate, function or action, and the types of its parameters by position.
-#[derive(Debug, Drop)]
+#[derive(Debug)]
 pub struct Signature {
     pub name: Text,
     pub params: List<u32>,
 }
 
+impl Drop for Signature {
+    fn drop(self) {
+        let Signature { name: _, params: _ } = self;
+    }
+}
+
 /// The words of a model. Types, objects, predicates, functions and actions are numbered by their places, from 0.
-#[derive(Debug, Drop)]
+#[derive(Debug)]
 pub struct Vocabulary {
     /// Each type with its parent. Type 0 is `object`, which is its own parent.
     pub types: List<(Text, u32)>,
@@ -22,4 +28,16 @@ pub struct Vocabulary {
     pub functions: List<Signature>,
     pub actions: List<Signature>,
     pub ghost sound: { IsTrue (is_vocabulary types objects predicates functions actions) },
+}
+
+impl Drop for Vocabulary {
+    fn drop(self) {
+        let Vocabulary {
+            types: _,
+            objects: _,
+            predicates: _,
+            functions: _,
+            actions: _,
+        } = self;
+    }
 }

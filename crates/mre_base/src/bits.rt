@@ -10,7 +10,7 @@ use std::hash::{Hash, Hasher};
 use std::marker::Model;
 
 /// A width and a set of numbers below it. Up to a width of 128 the words lie in the value itself.
-#[derive(Debug, Drop)]
+#[derive(Debug)]
 pub struct Bits {
     width: u32,
     words: SmallVec<u64, 2>,
@@ -27,6 +27,12 @@ impl Model for Bits {
     ghost view = { λ bits. record { width = bits.width; members = bits_below bits.width bits.words.items } };
 
     ghost invariant = { λ bits. HoldBits bits.width bits.words.items };
+}
+
+impl Drop for Bits {
+    fn drop(self) {
+        let Bits { width: _, words: _ } = self;
+    }
 }
 
 impl Bits {

@@ -8,9 +8,14 @@ use std::marker::Model;
 use std::{fmt, str};
 
 /// One text, seen as the list of its bytes in UTF-8. Up to 16 bytes lie in the value itself.
-#[derive(Drop)]
 pub struct Text {
     bytes: SmallVec<u8, 16>,
+}
+
+impl Drop for Text {
+    fn drop(self) {
+        let Text { bytes: _ } = self;
+    }
 }
 
 impl Model for Text {

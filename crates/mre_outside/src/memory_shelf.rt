@@ -10,16 +10,22 @@ use std::collections::VecDeque;
 use std::marker::Model;
 
 /// Bytes that were put under a name.
-#[derive(Debug, Drop)]
+#[derive(Debug)]
 struct Kept {
     name: Text,
     bytes: Vec<u8>,
 }
 
+impl Drop for Kept {
+    fn drop(self) {
+        let Kept { name: _, bytes: _ } = self;
+    }
+}
+
 /// A shelf in memory, of which chosen calls fail. A put that fails leaves the first half of its
 /// bytes, rounded down. The calls of `read` and `put` that are not refused memory count together,
 /// from 1.
-#[derive(Debug, Drop)]
+#[derive(Debug)]
 pub struct MemoryShelf {
     alloc: Global,
     given: List<(Text, Text)>,
@@ -27,6 +33,18 @@ pub struct MemoryShelf {
     puts: VecDeque<Kept>,
     asked: Vec<ShelfCall>,
     failing: FailingCalls,
+}
+
+impl Drop for MemoryShelf {
+    fn drop(self) {
+        let MemoryShelf {
+            alloc: _,
+            given: _,
+            puts: _,
+            asked: _,
+            failing: _,
+        } = self;
+    }
 }
 
 impl Model for MemoryShelf {

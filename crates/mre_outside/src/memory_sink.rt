@@ -7,12 +7,23 @@ use std::marker::Model;
 
 /// A sink in memory, of which chosen writes fail. A write that fails takes the first half of its
 /// bytes, rounded down. The writes that are not refused memory count from 1.
-#[derive(Debug, Drop)]
+#[derive(Debug)]
 pub struct MemorySink {
     taken: SoundSink,
     writes: u64,
     faults: u64,
     failing: FailingCalls,
+}
+
+impl Drop for MemorySink {
+    fn drop(self) {
+        let MemorySink {
+            taken: _,
+            writes: _,
+            faults: _,
+            failing: _,
+        } = self;
+    }
 }
 
 impl Model for MemorySink {

@@ -1,5 +1,5 @@
 -- What the reads of a request's files ask of the shelf, and what they get from it.
-use Rattle.std.specs.Prelude.{◌≡◌, ◌≤◌, ◌<◌, ◌+◌, ℕ, Bool, true, false, List, [], ◌∷◌, ◌++◌, length, map, take, All, Option, None, Some, Result, Ok, Err, option_map, IfSome, IsSomeAnd}
+use Rattle.std.specs.Prelude.{◌≡◌, ◌≤◌, ◌<◌, ◌+◌, ℕ, Bool, true, false, List, [], ◌∷◌, ◌++◌, length, map, take, Option, None, Some, Result, Ok, Err, option_map, IfSome, IsSomeAnd}
 use Rattle.std.specs.FinMap as files_map
 use Rattle.mre_outside.specs.Shelves.{Files}
 use Rattle.mre_outside.specs.declared.shelf.Act.TheVariants.{Read}

@@ -45,7 +45,6 @@ pub struct Answer {
 }
 
 /// How a call ended.
-#[derive(Drop)]
 pub struct Outcome {
     /// What the program ends with.
     pub status: u8,
@@ -53,6 +52,16 @@ pub struct Outcome {
     pub answer: Option<Answer>,
     /// The nodes of this call's searches, of which there are none yet.
     pub log: NodeLog,
+}
+
+impl Drop for Outcome {
+    fn drop(self) {
+        let Outcome {
+            status: _,
+            answer: _,
+            log: _,
+        } = self;
+    }
 }
 
 /// Does everything that the program does: takes its words, the shelf that holds the files, and two sinks, one

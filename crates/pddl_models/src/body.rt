@@ -3,10 +3,21 @@ use mre_base::List;
 
 /// What an action of a domain needs, adds and deletes, and by how much it raises the total cost, where
 /// it does.
-#[derive(Debug, Drop)]
+#[derive(Debug)]
 pub struct Body {
     pub pre: List<SchemaAtom>,
     pub add: List<SchemaAtom>,
     pub del: List<SchemaAtom>,
     pub increase: Option<CostExpr>,
+}
+
+impl Drop for Body {
+    fn drop(self) {
+        let Body {
+            pre: _,
+            add: _,
+            del: _,
+            increase: _,
+        } = self;
+    }
 }

@@ -6,10 +6,19 @@ use model_kit::Vocabulary;
 use mre_base::List;
 
 /// A domain: its words, and what each action needs, adds and deletes and how it raises the cost.
-#[derive(Debug, Drop)]
+#[derive(Debug)]
 pub struct Domain {
     pub words: Vocabulary,
     /// One body for each action of the words, in their order.
     pub bodies: List<Body>,
     pub ghost sound: { IsTrue (are_bodies words bodies) },
+}
+
+impl Drop for Domain {
+    fn drop(self) {
+        let Domain {
+            words: _,
+            bodies: _,
+        } = self;
+    }
 }

@@ -8,11 +8,20 @@ use pddl_names::NameTable;
 use std::alloc::Global;
 
 /// The numbers of a vocabulary's predicates, functions and objects, by their names.
-#[derive(Drop)]
 pub struct WordTables {
     pub predicates: NameTable,
     pub functions: NameTable,
     pub objects: NameTable,
+}
+
+impl Drop for WordTables {
+    fn drop(self) {
+        let WordTables {
+            predicates: _,
+            functions: _,
+            objects: _,
+        } = self;
+    }
 }
 
 impl WordTables {

@@ -34,11 +34,19 @@ impl Named for (Text, List<Text>) {
 }
 
 /// Types with their parents or objects with their types, and the first of each name.
-#[derive(Drop)]
 pub struct TypedList {
     pub entries: List<(Text, Text)>,
     table: NameTable,
     pub ghost sound: { IsTableOf typed_name entries table },
+}
+
+impl Drop for TypedList {
+    fn drop(self) {
+        let TypedList {
+            entries: _,
+            table: _,
+        } = self;
+    }
 }
 
 impl TypedList {
@@ -73,11 +81,19 @@ impl TypedList {
 }
 
 /// Predicates or functions with the types of their parameters, and the first of each name.
-#[derive(Drop)]
 pub struct SignedList {
     pub entries: List<(Text, List<Text>)>,
     table: NameTable,
     pub ghost sound: { IsTableOf signed_name entries table },
+}
+
+impl Drop for SignedList {
+    fn drop(self) {
+        let SignedList {
+            entries: _,
+            table: _,
+        } = self;
+    }
 }
 
 impl SignedList {

@@ -10,12 +10,22 @@ use mre_base::List;
 
 /// What is known of heads: how many parameters the predicates and the functions have, and how many
 /// terms and parameters stand behind each word.
-#[derive(Drop)]
 pub struct Heads {
     pub predicates: Arities,
     pub functions: Arities,
     pub terms: Vec<u32>,
     pub params: Vec<u32>,
+}
+
+impl Drop for Heads {
+    fn drop(self) {
+        let Heads {
+            predicates: _,
+            functions: _,
+            terms: _,
+            params: _,
+        } = self;
+    }
 }
 
 impl Heads {

@@ -48,7 +48,6 @@ impl Names {
 }
 
 /// What is declared, and what is known of the words of a text by their places.
-#[derive(Drop)]
 pub struct Tables {
     pub names: Names,
     /// Where the type behind each word stands.
@@ -60,6 +59,20 @@ pub struct Tables {
     pub actions: NameTable,
     /// For each value where the first with its function and objects stands.
     pub values: Vec<u32>,
+}
+
+impl Drop for Tables {
+    fn drop(self) {
+        let Tables {
+            names: _,
+            types: _,
+            heads: _,
+            predicates: _,
+            functions: _,
+            actions: _,
+            values: _,
+        } = self;
+    }
 }
 
 impl Tables {

@@ -59,11 +59,21 @@ pub enum Role {
 }
 
 /// A word of a domain or a problem.
-#[derive(Debug, Drop)]
+#[derive(Debug)]
 pub struct Word {
     pub role: Role,
     pub text: Text,
     pub at: Place,
+}
+
+impl Drop for Word {
+    fn drop(self) {
+        let Word {
+            role: _,
+            text: _,
+            at: _,
+        } = self;
+    }
 }
 
 // What is listed.

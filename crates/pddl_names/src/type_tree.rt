@@ -3,11 +3,20 @@ use crate::forests::Node;
 
 /// The types with their parents, by number. Also a parent that isn't listed itself has a number, and
 /// `object` has one.
-#[derive(Drop)]
 pub struct TypeTree {
     pub names: TypedList,
     /// The number of the parent of each.
     pub ups: Vec<u32>,
     /// What is known of each in the forest of parents.
     pub nodes: Vec<Node>,
+}
+
+impl Drop for TypeTree {
+    fn drop(self) {
+        let TypeTree {
+            names: _,
+            ups: _,
+            nodes: _,
+        } = self;
+    }
 }

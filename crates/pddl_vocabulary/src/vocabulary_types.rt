@@ -10,10 +10,18 @@ use pddl_names::{Kind, NameTable, Role, Word};
 use std::alloc::Global;
 
 /// The numbers of types by their names, and where the type stands that is behind each word of a group.
-#[derive(Drop)]
 pub struct TypeNumbers {
     pub numbers: NameTable,
     pub places: Vec<u32>,
+}
+
+impl Drop for TypeNumbers {
+    fn drop(self) {
+        let TypeNumbers {
+            numbers: _,
+            places: _,
+        } = self;
+    }
 }
 
 impl TypeNumbers {

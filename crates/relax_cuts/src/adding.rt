@@ -14,13 +14,22 @@ pub struct Add {
 }
 
 /// What the actions add, one action after another.
-#[derive(Drop)]
 pub struct Adding {
     adds: Vec<Add>,
     // Where the adds of each action end.
     ends: Vec<usize>,
     // The place of the last action that adds each atom.
     last: Vec<Option<usize>>,
+}
+
+impl Drop for Adding {
+    fn drop(self) {
+        let Adding {
+            adds: _,
+            ends: _,
+            last: _,
+        } = self;
+    }
 }
 
 impl Adding {

@@ -13,12 +13,21 @@ use std::collections::BinaryHeap;
 use task_kit::TaskView;
 
 /// The value of each atom that can be made true, and of each action that can be made applicable the precondition of the greatest value.
-#[derive(Drop)]
 pub struct Values {
     of_atoms: Vec<Option<u64>>,
     supporters: Vec<Option<u32>>,
     // Atoms that have a value, which is the least one where the atom comes out first.
     queue: BinaryHeap<Reverse<(u64, u32)>>,
+}
+
+impl Drop for Values {
+    fn drop(self) {
+        let Values {
+            of_atoms: _,
+            supporters: _,
+            queue: _,
+        } = self;
+    }
 }
 
 impl Values {

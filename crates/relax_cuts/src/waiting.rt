@@ -6,7 +6,6 @@ use mre_base::NoMemory;
 use std::alloc::Global;
 
 /// For each atom, the actions that wait for it, and the actions that wait no more. An action waits for one atom at a time.
-#[derive(Drop)]
 pub struct Waiting {
     // The last action that began to wait for an atom.
     last: Vec<Option<u32>>,
@@ -16,6 +15,16 @@ pub struct Waiting {
     ghost last_listed: { AreBelow (length before.items) last.items },
     ghost before_listed: { AreBelow (length before.items) before.items },
     ghost ready_listed: { All (λ action. action < length before.items) ready.items },
+}
+
+impl Drop for Waiting {
+    fn drop(self) {
+        let Waiting {
+            last: _,
+            before: _,
+            ready: _,
+        } = self;
+    }
 }
 
 impl Waiting {

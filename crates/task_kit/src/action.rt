@@ -1,10 +1,21 @@
 use mre_base::List;
 
 /// A ground action: its preconditions, adds and deletes by their numbers, and its cost where it has one.
-#[derive(Debug, Drop)]
+#[derive(Debug)]
 pub struct TaskAction {
     pub pre: List<u32>,
     pub add: List<u32>,
     pub del: List<u32>,
     pub cost: Option<u32>,
+}
+
+impl Drop for TaskAction {
+    fn drop(self) {
+        let TaskAction {
+            pre: _,
+            add: _,
+            del: _,
+            cost: _,
+        } = self;
+    }
 }

@@ -20,13 +20,24 @@ pub struct Way {
 }
 
 /// The states in the order in which they were reached, with the last way to each, which is the cheapest so far.
-#[derive(Drop)]
 pub struct Table {
     alloc: Global,
     states: IndexSet<Bits>,
     last: Vec<usize>,
     ways: Vec<Way>,
     waiting: Queue,
+}
+
+impl Drop for Table {
+    fn drop(self) {
+        let Table {
+            alloc: _,
+            states: _,
+            last: _,
+            ways: _,
+            waiting: _,
+        } = self;
+    }
 }
 
 fn place_of(states: &IndexSet<Bits>, state: &Bits) -> Option<usize>

@@ -11,10 +11,15 @@ use mre_base::{Bits, List, NoMemory};
 use std::alloc::Global;
 
 // The state that is looked at, and one of its successors.
-#[derive(Drop)]
 struct Scratch {
     from: Bits,
     into: Bits,
+}
+
+impl Drop for Scratch {
+    fn drop(self) {
+        let Scratch { from: _, into: _ } = self;
+    }
 }
 
 // What a search looks at: a way at its place, and the bound below which lists count.

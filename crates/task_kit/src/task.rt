@@ -9,7 +9,7 @@ use mre_base::{Bits, List};
 
 /// A task on numbers that keeps its actions as lists. The start and the adds are below `atoms`; the goal, the preconditions and the
 /// deletes are at most `atoms`, and so is each set one number wider.
-#[derive(Debug, Drop)]
+#[derive(Debug)]
 pub struct Task {
     pub atoms: u32,
     pub start: Bits,
@@ -18,6 +18,17 @@ pub struct Task {
     ghost start_width: { start.width ≡ atoms + 1 },
     ghost goal_width: { goal.width ≡ atoms + 1 },
     ghost in_range: { IsTask (task_meaning atoms start goal actions) },
+}
+
+impl Drop for Task {
+    fn drop(self) {
+        let Task {
+            atoms: _,
+            start: _,
+            goal: _,
+            actions: _,
+        } = self;
+    }
 }
 
 impl TaskView for Task {

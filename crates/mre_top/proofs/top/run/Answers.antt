@@ -35,21 +35,21 @@ pub returns-in-Err-NoRequest-clause-ended : goal.returns-in-Err-NoRequest-clause
 returns-in-Err-NoRequest-clause-ended g c =
     let none = c.read_words.ensures.no_request.0 (c.in-Err-NoRequest.is ∙ ap Err c.in-Err-NoRequest.field-0-is) in
     inr (
-      c.refuse-in-Err-NoRequest.ensures.answer,
+      c.refuse.ensures.answer,
       Usage,
       record { calls = []; cause = (none, refl); asked = asked_then-nothing (g.H.Shelf.asked c.args.shelf.now) },
       refl,
-      c.refuse-in-Err-NoRequest.ensures.told,
+      c.refuse.ensures.told,
       λ sound. tt,
     )
 
 pub returns-in-Err-NoMemory-clause-ended : goal.returns-in-Err-NoMemory-clause-ended
 returns-in-Err-NoMemory-clause-ended g c =
     inr (
-      c.refuse-in-Err-NoMemory-2.ensures.answer,
+      c.refuse-in-Err-NoMemory.ensures.answer,
       NoMemory,
       record { calls = []; cause = (0, omega arith, refl); asked = asked_then-nothing (g.H.Shelf.asked c.args.shelf.now) },
       inl refl,
-      c.refuse-in-Err-NoMemory-2.ensures.told,
+      c.refuse-in-Err-NoMemory.ensures.told,
       λ sound. tt,
     )
