@@ -11,8 +11,8 @@ use model_kit::{CostExpr, Model, are_same_terms};
 use mre_base::NoMemory;
 use std::alloc::Global;
 
-// Whether a model knows an action.
-fn knows(model: &Model, action: u32) -> bool
+/// Whether a model knows an action of its vocabulary.
+pub fn knows(model: &Model, action: u32) -> bool
     requires { action < length model.now.words.actions }
     ensures { meaning model.now (Knows action) ≡ Feature result }
 {

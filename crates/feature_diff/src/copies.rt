@@ -4,14 +4,15 @@ use model_kit::{CostExpr, GroundAtom, SchemaAtom, Signature, Term, Vocabulary};
 use mre_base::{List, NoMemory, Text};
 use std::alloc::Global;
 
-// What can be had once more.
-pub(crate) trait Copied: Drop {
+/// What can be had once more, in memory of its own: the parts of models.
+pub trait Copied: Drop {
+    /// The same once more. `NoMemory` leaves what was there.
     fn copied(&self, alloc: Global) -> Result<Self, NoMemory>
         ensures ok { IfOk result (λ made. made ≡ self.now) };
 }
 
-// The list once more.
-pub(crate) fn copy_all<T: Copied>(alloc: Global, items: &List<T>) -> Result<List<T>, NoMemory>
+/// The list once more, item by item. `NoMemory` leaves what was there.
+pub fn copy_all<T: Copied>(alloc: Global, items: &List<T>) -> Result<List<T>, NoMemory>
     ensures ok { IfOk result (λ made. made ≡ items.now) }
 {
     let mut made = List::empty(alloc);

@@ -16,6 +16,9 @@ mod spots;
 mod told;
 mod worths;
 
+pub use actions::knows;
+pub use copies::{Copied, copy_all};
 pub use difference::Difference;
 pub use joint_models::{PairFault, PairStop};
 pub use pair::{DiffStop, Pair};
+pub use spots::is_same_atom;

@@ -92,7 +92,8 @@ impl Spot<ActionKind> for u32 {
     }
 }
 
-fn is_same_atom(one: &SchemaAtom, other: &SchemaAtom) -> bool
+/// Whether two atoms of schemas are the same, term by term.
+pub fn is_same_atom(one: &SchemaAtom, other: &SchemaAtom) -> bool
     ensures { result ≡ same_schema_atom one.now other.now }
 {
     one.predicate == other.predicate && are_same_terms(&one.args, &other.args)
