@@ -1,0 +1,25 @@
+//! Reads the texts of pairs of models from standard input, a text a line, and prints what may be reached in them.
+//!
+//! The lines `domain TEXT` and `problem TEXT` give the planner's model, `user-domain TEXT` and `user-problem TEXT` the user's. A line `reach`
+//! prints the atoms and the actions that may be reached, a line `count` how many there are; words and objects are told by their numbers.
+#![tactic(auto)]
+
+mod cases;
+mod reaching;
+mod telling;
+
+use cases::Cases;
+use mre_base::NoMemory;
+use std::io;
+use std::io::ErrorKind;
+
+fn main(rt: HostRuntime) -> io::Result<()> {
+    let mut cases = Cases::new(rt.alloc());
+    for line in rt.lines(rt.alloc()) {
+        match cases.take(rt.alloc(), line?.as_str()) {
+            Ok(told) => print!(rt; "{told}")?,
+            Err(NoMemory) => return Err(ErrorKind::OutOfMemory.into()),
+        }
+    }
+    Ok(())
+}
