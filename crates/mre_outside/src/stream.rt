@@ -48,11 +48,7 @@ pub(crate) fn raise(faults: &mut u64)
 }
 
 /// Writes all the bytes. A writer that takes nothing has failed, and then a prefix of them may be written.
-pub fn write_to<W: Write>(
-    writer: &mut W,
-    bytes: &[u8],
-    faults: &mut u64,
-) -> Result<(), WriteFailed>
+pub fn write_to<W: Write>(writer: &mut W, bytes: &[u8], faults: &mut u64) -> Result<(), WriteFailed>
     ensures ok { OnOk result (Appends (W.contents writer.old) (W.contents writer.new) bytes.now) }
     ensures failed { IsErr result → Rose faults.old faults.new }
     ensures part { IsErr result
