@@ -105,48 +105,44 @@ fn play(shelf: &mut MemoryShelf) -> [bool; 7] {
     failed
 }
 
-// These of the seven calls fail, and afterwards this stands under `c`.
-fn assert_played(rt: &impl Abort, shelf: &mut MemoryShelf, calls: &[usize], content: &str) {
-    let failed = play(shelf);
-    for call in 1..=7 {
-        assert_eq!(rt;
-            failed[call - 1],
-            calls.contains(&call),
-            "call {call} of {calls:?}"
-        );
-    }
-    assert_eq!(rt; shelf.file("c"), Some(content.as_bytes()), "{calls:?}");
-    assert_eq!(rt; shelf.file("up"), Some(b"up.".as_slice()), "{calls:?}");
-}
-
-fn assert_put(
-    rt: &impl Abort,
-    alloc: Global,
-    failing: &[u32],
-    calls: &[usize],
-    content: &str,
-) -> Result<(), Fail> {
-    let failing = numbers(alloc, failing)?;
-    let mut shelf = MemoryShelf::new(alloc, five_files(alloc)?, failing);
-    assert_played(rt, &mut shelf, calls, content);
-    Ok(())
-}
-
 #[test]
 fn a_chosen_put_leaves_the_first_half(rt: HostRuntime) -> Result<(), Fail> {
     let alloc = rt.alloc();
-    assert_put(&rt, alloc, &[], &[], "certificate")?;
-    assert_put(&rt, alloc, &[1], &[1], "certificate")?;
-    assert_put(&rt, alloc, &[3, 5], &[3, 5], "certificate")?;
-    assert_put(&rt, alloc, &[6], &[6], "certi")?;
-    assert_put(&rt, alloc, &[7, 8], &[7], "certificate")?;
-    assert_put(&rt, alloc, &[0, 9], &[], "certificate")
-}
-
-#[test]
-fn a_shelf_that_stops_goes_on_failing(rt: HostRuntime) -> Result<(), Fail> {
-    let mut shelf = MemoryShelf::stopping(rt.alloc(), five_files(rt.alloc())?, 6);
-    assert_played(&rt, &mut shelf, &[6, 7], "certi");
+    let rows: [(&[u32], &[usize], &str); 6] = [
+        (&[], &[], "certificate"),
+        (&[1], &[1], "certificate"),
+        (&[3, 5], &[3, 5], "certificate"),
+        (&[6], &[6], "certi"),
+        (&[7, 8], &[7], "certificate"),
+        (&[0, 9], &[], "certificate"),
+    ];
+    for (failing, calls, content) in rows {
+        let mut shelf = MemoryShelf::new(alloc, five_files(alloc)?, numbers(alloc, failing)?);
+        let failed = play(&mut shelf);
+        for call in 1..=7 {
+            assert_eq!(rt;
+                failed[call - 1],
+                calls.contains(&call),
+                "call {call}, failing {failing:?}"
+            );
+        }
+        assert_eq!(rt;
+            shelf.file("c"),
+            Some(content.as_bytes()),
+            "failing {failing:?}"
+        );
+        assert_eq!(rt;
+            shelf.file("up"),
+            Some(b"up.".as_slice()),
+            "failing {failing:?}"
+        );
+    }
+    let mut shelf = MemoryShelf::stopping(alloc, five_files(alloc)?, 6);
+    assert_eq!(rt;
+        play(&mut shelf),
+        [false, false, false, false, false, true, true]
+    );
+    assert_eq!(rt; shelf.file("c"), Some(b"certi".as_slice()));
     Ok(())
 }
 

@@ -1,0 +1,5 @@
+//! Shelves, sinks and streams, on tables.
+#![tactic(auto)]
+
+#[cfg(test)]
+mod shelves;
