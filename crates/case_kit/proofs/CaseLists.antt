@@ -1,34 +1,19 @@
 -- Lists of cases: the atoms of those that pass a test, one case after another.
-use Rattle.std.proofs.Common.{◌≡◌, ℕ, zero, suc, ◌+◌, ◌<◌, Bool, true, false, cond, List, [], ◌∷◌, ◌++◌, take, map, filter, Some, All, refl, sym, ap, ◌∙◌, arith, subst, ◌⊎◌, inl, inr}
+use Rattle.std.proofs.Common.{◌≡◌, ℕ, ◌+◌, ◌<◌, Bool, true, false, cond, List, [], ◌∷◌, ◌++◌, take, map, filter, Some, All, refl, sym, ap, ◌∙◌, arith, subst, ◌⊎◌, inl, inr}
 use Rattle.std.specs.Prelude.{Contains, slice_get}
 use Rattle.std.specs.Ordering.{nat_cmp}
 use Rattle.std.specs.FinSet as set
 use Rattle.std.specs.Cmp.{nat_cmp_total}
 use Rattle.std.specs.FinSet.{contains-empty, from_list_push, nat_cmp-IsAntisymmetric}
 use Rattle.std.proofs.lemmas.Bool.{or_cases, or_left, or_right, eq-eqb, eqb-true, false≢true}
-use Rattle.std.proofs.lemmas.List.{take_more, map-append}
+use Rattle.std.proofs.lemmas.List.{map-append}
 use Rattle.std.proofs.lemmas.List.Elements.{filter-append, All-filter, All-map}
-use Rattle.std.proofs.lemmas.Option.{slice_get_within, get_or_from_slice_get}
+use Rattle.mre_base.proofs.Loops.{take_item, contains_cases, contains_here, contains_later}
 use Rattle.mre_base.proofs.SetsBelow.{contains-insert_nat}
 use Rattle.task_kit.specs.Tasks.{Numbers, set_of}
 use Rattle.case_kit.specs.declared.cases.When.{When}
 use Rattle.case_kit.specs.declared.cases.Case.{Case}
 use Rattle.case_kit.specs.Evaluated.{atoms_where}
-
--- the items up to a place, and the item there
-pub take_next : {X : Type 0} (xs : List X) (i : ℕ) (x : X) → slice_get xs i ≡ Some x → take (i + 1) xs ≡ take i xs ++ x ∷ []
-take_next xs i x e = take_more xs i x (slice_get_within xs i x e) ∙ ap (λ y. take i xs ++ y ∷ []) (get_or_from_slice_get xs i x x e)
-
--- ---- what stands in a list
-pub contains_cases : {X : Type 0} (x : X) (xs : List X) (y : X) → Contains (x ∷ xs) y → (x ≡ y) ⊎ Contains xs y
-contains_cases x xs y (zero, lt, e) = inl e
-contains_cases x xs y (suc i, lt, e) = inr (i, omega arith, e)
-
-pub contains_here : {X : Type 0} (x : X) (xs : List X) → Contains (x ∷ xs) x
-contains_here x xs = (0, omega arith, refl)
-
-pub contains_later : {X : Type 0} (x : X) (xs : List X) (y : X) → Contains xs y → Contains (x ∷ xs) y
-contains_later x xs y (i, lt, e) = (suc i, omega arith, e)
 
 -- ---- one more case
 none_more : (xs : List ℕ) → xs ++ [] ≡ xs
@@ -47,7 +32,7 @@ where_pushed test cases case =
 pub where_next : (test : When → Bool) (cases : List Case) (i : ℕ) (case : Case) (b : Bool) → slice_get cases i ≡ Some case → test case.when ≡ b →
     atoms_where test (take (i + 1) cases) ≡ cond b (atoms_where test (take i cases) ++ case.atom ∷ []) (atoms_where test (take i cases))
 where_next test cases i case b at e =
-    ap (atoms_where test) (take_next cases i case at) ∙ where_pushed test (take i cases) case
+    ap (atoms_where test) (take_item cases i case at) ∙ where_pushed test (take i cases) case
     ∙ ap (λ c. cond c (atoms_where test (take i cases) ++ case.atom ∷ []) (atoms_where test (take i cases))) e
 
 -- ---- the atoms as a set

@@ -24,7 +24,7 @@ use Rattle.case_kit.specs.declared.action.CaseAction.{CaseAction}
 use Rattle.case_kit.specs.Parts.{stands_in_value, stands_in_cost, speaks_of}
 use Rattle.case_kit.specs.Evaluated.{may_hold, must_hold, counts, opposite, value_by, cost_by, known_cost_by}
 use Rattle.case_kit.specs.Laws.{ChildLaw}
-use Rattle.case_kit.proofs.CaseLists.{take_next}
+use Rattle.mre_base.proofs.Loops.{take_item}
 use Rattle.case_kit.proofs.PriceLemmas.{decided, or_false}
 use Rattle.case_kit.proofs.RelaxedLemmas.{action_there}
 use Rattle.case_kit.proofs.TableLemmas.{action_agree}
@@ -40,7 +40,7 @@ one_passes p (y ∷ ys) zero x at on = let same : y ≡ x = cc in sym (or_left (
 one_passes p (y ∷ ys) (suc i) x at on = sym (or_right (p y) (list_any p ys) (sym (one_passes p ys i x at on)))
 
 pub none_more : {X : Type 0} (p : X → Bool) (xs : List X) (i : ℕ) (x : X) → slice_get xs i ≡ Some x → p x ≡ false → list_any p (take i xs) ≡ false → list_any p (take (i + 1) xs) ≡ false
-none_more p xs i x at off before = ap (list_any p) (take_next xs i x at) ∙ none_pushed p (take i xs) x before off where
+none_more p xs i x at off before = ap (list_any p) (take_item xs i x at) ∙ none_pushed p (take i xs) x before off where
   none_pushed : {X : Type 0} (p : X → Bool) (xs : List X) (x : X) → list_any p xs ≡ false → p x ≡ false → list_any p (xs ++ x ∷ []) ≡ false
   none_pushed p [] x none off = (λ j. off j || false)
   none_pushed p (y ∷ ys) x none off = let parts = or_false _ _ none in (λ j. parts.0 j || none_pushed p ys x parts.1 off j)

@@ -11,7 +11,7 @@ use Rattle.case_kit.specs.declared.cases.Case.{Case}
 use Rattle.case_kit.specs.Sound.{StandsAmong}
 use Rattle.case_kit.specs.Members.{holds}
 use Rattle.case_kit.specs.Evaluated.{may_hold, must_hold}
-use Rattle.case_kit.proofs.CaseLists.{contains_cases, contains_here, contains_later}
+use Rattle.mre_base.proofs.Loops.{contains_cases, contains_here, contains_later}
 
 -- ---- a member that has a number or lacks it, and is else another member
 pub record IsMoved (cube : CubeMeaning) (from : Told) (place : ℕ) (has : Bool) (to : Told) : Type 0 where

@@ -3,7 +3,8 @@ ghost use Rattle.case_kit.specs.Parts.{stands_among, touches};
 
 use crate::cases::{Case, When};
 use crate::costs::CaseCost;
-use mre_base::List;
+use mre_base::{Copied, List, NoMemory};
+use std::alloc::Global;
 
 /// A ground action in all models: the cases of its preconditions, adds and deletes, its cost, and when a model knows it. Where it isn't
 /// known it has no cost.
@@ -25,6 +26,18 @@ impl Drop for CaseAction {
             cost: _,
             known: _,
         } = self;
+    }
+}
+
+impl Copied for CaseAction {
+    fn copied(&self, alloc: Global) -> Result<CaseAction, NoMemory> {
+        Ok(CaseAction {
+            pre: self.pre.copied(alloc)?,
+            add: self.add.copied(alloc)?,
+            del: self.del.copied(alloc)?,
+            cost: self.cost,
+            known: self.known,
+        })
     }
 }
 

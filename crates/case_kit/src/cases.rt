@@ -1,6 +1,9 @@
 ghost use Rattle.std.specs.Prelude.{◌≡◌};
 ghost use Rattle.case_kit.specs.Parts.{speaks_of};
 
+use mre_base::{Copied, NoMemory};
+use std::alloc::Global;
+
 /// When a case is on. The differences count from 1.
 #[derive(Clone, Copy, Debug)]
 pub enum When {
@@ -17,6 +20,12 @@ pub enum When {
 pub struct Case {
     pub atom: u32,
     pub when: When,
+}
+
+impl Copied for Case {
+    fn copied(&self, _alloc: Global) -> Result<Case, NoMemory> {
+        Ok(*self)
+    }
 }
 
 impl When {

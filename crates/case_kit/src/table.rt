@@ -10,7 +10,7 @@ use crate::pricing::known_cost_by;
 use crate::taking::{atoms_by, set_by};
 use crate::way::Way;
 use cube_kit::Cube;
-use mre_base::{Bits, List, NoMemory};
+use mre_base::{Bits, Copied, List, NoMemory};
 use std::alloc::Global;
 use task_kit::{Task, TaskAction};
 
@@ -38,38 +38,6 @@ impl Drop for CaseTable {
     }
 }
 
-fn copy_cases(alloc: Global, cases: &List<Case>) -> Result<List<Case>, NoMemory>
-    ensures { IfOk result (λ made. made ≡ cases.now) }
-{
-    let mut made = List::empty(alloc);
-    for place in 0..cases.len() {
-        made.push(*cases.item(place))?;
-    }
-    Ok(made)
-}
-
-fn copy_action(alloc: Global, action: &CaseAction) -> Result<CaseAction, NoMemory>
-    ensures { IfOk result (λ made. made ≡ action.now) }
-{
-    Ok(CaseAction {
-        pre: copy_cases(alloc, &action.pre)?,
-        add: copy_cases(alloc, &action.add)?,
-        del: copy_cases(alloc, &action.del)?,
-        cost: action.cost,
-        known: action.known,
-    })
-}
-
-fn copy_actions(alloc: Global, actions: &List<CaseAction>) -> Result<List<CaseAction>, NoMemory>
-    ensures { IfOk result (λ made. made ≡ actions.now) }
-{
-    let mut made = List::empty(alloc);
-    for place in 0..actions.len() {
-        made.push(copy_action(alloc, actions.item(place))?)?;
-    }
-    Ok(made)
-}
-
 impl CaseTable {
     ghost use Rattle.std.specs.Prelude.{map, All};
     ghost use Rattle.case_kit.specs.Members.{member};
@@ -82,9 +50,9 @@ impl CaseTable {
         Ok(CaseTable {
             d: self.d,
             atoms: self.atoms,
-            start: copy_cases(alloc, &self.start)?,
-            goal: copy_cases(alloc, &self.goal)?,
-            actions: copy_actions(alloc, &self.actions)?,
+            start: self.start.copied(alloc)?,
+            goal: self.goal.copied(alloc)?,
+            actions: self.actions.copied(alloc)?,
         })
     }
 

@@ -15,7 +15,7 @@ use Rattle.model_kit.specs.Differences.{patched}
 use Rattle.model_kit.specs.Runs.{cost}
 use Rattle.model_kit.specs.Explanations.{Task}
 use Rattle.model_kit.specs.Sentences.{sentence, line, difference_line, explanation_lines, explanation}
-use Rattle.model_kit.proofs.Loops.{All_item}
+use Rattle.mre_base.proofs.Loops.{All_item}
 use Rattle.feature_diff.specs.declared.difference.Difference.{Difference}
 use Rattle.feature_diff.specs.Differing.{Says, place_of}
 use Rattle.explain_text.specs.Lines.{kind_name, sentence_of, numbered_line, list_lines, lines_of}

@@ -20,7 +20,7 @@ use Rattle.model_kit.specs.Vocabulary.{is_ground_atom, is_schema_atom}
 use Rattle.model_kit.specs.declared.atom.GroundAtom.{GroundAtom}
 use Rattle.model_kit.specs.declared.model.CostExpr.{CostExpr}
 use Rattle.feature_diff.proofs.ActionLemmas.{item_at}
-use Rattle.model_kit.proofs.Loops.{take_item}
+use Rattle.mre_base.proofs.Loops.{take_item}
 use Rattle.model_kit.proofs.Alike.{same_atom-decides, same_schema_atom-decides}
 use Rattle.model_kit.proofs.Distinct.{ListFacts}
 use Rattle.model_kit.proofs.ModelFacts.{SchemaFacts, ModelFacts, facts_of_model, model_sound}

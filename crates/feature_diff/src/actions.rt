@@ -4,11 +4,10 @@ ghost use Rattle.feature_diff.specs.Telling.{same_cost};
 ghost use Rattle.feature_diff.specs.Parts.{GainsGroup, IsGathered};
 
 use crate::Difference;
-use crate::copies::Copied;
 use crate::gathered::Gathered;
 use crate::schema_parts::{ActionPart, Part, tell_part};
 use model_kit::{CostExpr, Model, are_same_terms};
-use mre_base::NoMemory;
+use mre_base::{Copied, NoMemory};
 use std::alloc::Global;
 
 /// Whether a model knows an action of its vocabulary.

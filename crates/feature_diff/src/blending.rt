@@ -3,13 +3,12 @@ ghost use Rattle.feature_diff.specs.Telling.{place_in, part_of};
 ghost use Rattle.feature_diff.specs.Blending.{is_told_at, those, blended, blended_schema, AreBlended, IsBlend};
 
 use crate::Difference;
-use crate::copies::Copied;
 use crate::facts::FactKind;
 use crate::schema_parts::{ActionPart, Part, atoms_in};
 use crate::spots::{ActionKind, Spot, is_told};
 use crate::worths::Worths;
 use model_kit::{GroundAtom, Model, Schema, SchemaAtom};
-use mre_base::{List, NoMemory, Places};
+use mre_base::{Copied, List, NoMemory, Places};
 use std::alloc::Global;
 
 // Copies the entries that are told, or those that aren't, to the end of a list.

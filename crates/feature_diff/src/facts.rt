@@ -5,21 +5,21 @@ ghost use Rattle.feature_diff.specs.Telling.{facts_of, fact_told, fact_group};
 ghost use Rattle.feature_diff.specs.Parts.{GainsGroup};
 
 use crate::Difference;
-use crate::copies::Copied;
 use crate::gathered::Gathered;
 use crate::told::{Told, tell};
 use model_kit::{GroundAtom, Model, Vocabulary, print_atom};
-use mre_base::{List, NoMemory, Text};
+use mre_base::{Copied, List, NoMemory, Text};
 use std::alloc::Global;
 
-// The lists of ground atoms of a model.
+/// The lists of ground atoms of a model.
 #[derive(Clone, Copy)]
-pub(crate) enum FactKind {
+pub enum FactKind {
     Init,
     Goal,
 }
 
-pub(crate) fn facts(kind: FactKind, model: &Model) -> &List<GroundAtom>
+/// One of the lists.
+pub fn facts_in(kind: FactKind, model: &Model) -> &List<GroundAtom>
     ensures { result.now ≡ facts_of kind model.now }
 {
     match kind {
@@ -44,8 +44,8 @@ pub(crate) fn tell_facts(
         alloc,
         words,
         &kind,
-        facts(kind, planner),
-        facts(kind, user),
+        facts_in(kind, planner),
+        facts_in(kind, user),
         gathered,
     )
 }

@@ -3,7 +3,6 @@
 
 mod actions;
 mod blending;
-mod copies;
 mod difference;
 mod facts;
 mod form;
@@ -17,8 +16,10 @@ mod told;
 mod worths;
 
 pub use actions::knows;
-pub use copies::{Copied, copy_all};
 pub use difference::Difference;
+pub use facts::{FactKind, facts_in};
 pub use joint_models::{PairFault, PairStop};
 pub use pair::{DiffStop, Pair};
-pub use spots::is_same_atom;
+pub use schema_parts::{ActionPart, Part, atoms_in};
+pub use spots::{ActionKind, Spot, place_at};
+pub use worths::Worths;

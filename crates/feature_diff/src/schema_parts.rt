@@ -5,29 +5,29 @@ ghost use Rattle.feature_diff.specs.Telling.{part_of, part_told, group_in};
 ghost use Rattle.feature_diff.specs.Parts.{GainsGroup};
 
 use crate::Difference;
-use crate::copies::Copied;
 use crate::gathered::Gathered;
 use crate::told::{Told, tell};
 use model_kit::{Model, Schema, SchemaAtom, Vocabulary, print_schema_atom};
-use mre_base::{List, NoMemory, Text};
+use mre_base::{Copied, List, NoMemory, Text};
 use std::alloc::Global;
 
-// The lists of atoms of an action schema.
+/// The lists of atoms of an action schema.
 #[derive(Clone, Copy)]
-pub(crate) enum Part {
+pub enum Part {
     Pre,
     Add,
     Del,
 }
 
-// One of the lists of an action.
+/// One of the lists of an action.
 #[derive(Clone, Copy)]
-pub(crate) struct ActionPart {
-    pub(crate) action: u32,
-    pub(crate) part: Part,
+pub struct ActionPart {
+    pub action: u32,
+    pub part: Part,
 }
 
-pub(crate) fn atoms_in(part: Part, schema: &Schema) -> &List<SchemaAtom>
+/// One of the lists.
+pub fn atoms_in(part: Part, schema: &Schema) -> &List<SchemaAtom>
     ensures { result.now ≡ part_of part schema.now }
 {
     match part {

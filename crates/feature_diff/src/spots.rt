@@ -1,33 +1,33 @@
-ghost use Rattle.std.specs.Prelude.{◌≡◌, ◌≤◌, length};
+ghost use Rattle.std.specs.Prelude.{◌≡◌, ◌<◌, ◌≤◌, length, IfSome};
 ghost use Rattle.std.specs.FinSet as set;
+ghost use Rattle.model_kit.specs.Differences.{number_from};
 ghost use Rattle.model_kit.specs.Places.{same_place};
 ghost use Rattle.model_kit.specs.Same.{same_schema_atom};
-ghost use Rattle.feature_diff.specs.Differing.{place_of};
+ghost use Rattle.feature_diff.specs.Differing.{place_of, places_of};
 ghost use Rattle.feature_diff.specs.Blending.{action_place, is_told_at};
 ghost use Rattle.feature_diff.specs.Telling.{fact_place, place_in};
 
 use crate::Difference;
-use crate::copies::Copied;
 use crate::facts::FactKind;
 use crate::schema_parts::{ActionPart, Part};
 use crate::worths::Worths;
 use model_kit::{GroundAtom, SchemaAtom, are_same_terms};
-use mre_base::{List, Places};
+use mre_base::{Copied, List, Places};
 
-// What stands at a place of a model.
-pub(crate) trait Spot<K>: Copied {
+/// What stands at a place of a model, of one kind of places.
+pub trait Spot<K>: Copied {
     ghost use Rattle.model_kit.specs.Places.{Place};
 
     ghost place: { K → Self → Place };
 
-    // Whether a difference is at that place.
+    /// Whether a difference is at that place.
     fn is_at(&self, kind: &K, difference: &Difference) -> bool
         ensures { result ≡ same_place (place_of difference.now) (place kind.now self.now) };
 }
 
-// The two places of an action that aren't lists of atoms: whether it is known, and its cost.
+/// The two places of an action that aren't lists of atoms: whether it is known, and its cost.
 #[derive(Clone, Copy)]
-pub(crate) enum ActionKind {
+pub enum ActionKind {
     Knows,
     Cost,
 }
@@ -92,11 +92,24 @@ impl Spot<ActionKind> for u32 {
     }
 }
 
-/// Whether two atoms of schemas are the same, term by term.
-pub fn is_same_atom(one: &SchemaAtom, other: &SchemaAtom) -> bool
+// Whether two atoms of schemas are the same, term by term.
+fn is_same_atom(one: &SchemaAtom, other: &SchemaAtom) -> bool
     ensures { result ≡ same_schema_atom one.now other.now }
 {
     one.predicate == other.predicate && are_same_terms(&one.args, &other.args)
+}
+
+/// The place in the list of the difference at a place of a model, where there is one.
+pub fn place_at<K, T: Spot<K>>(item: &T, kind: &K, differences: &List<Difference>) -> Option<usize>
+    ensures place { result ≡ number_from 0 (places_of differences.now) (T.place kind.now item.now) }
+    ensures within { IfSome result (λ place. place < length differences.now) }
+{
+    for place in 0..differences.len() {
+        if item.is_at(kind, differences.item(place)) {
+            return Some(place);
+        }
+    }
+    None
 }
 
 // Whether the number of the difference at a place is told.
@@ -109,10 +122,8 @@ pub(crate) fn is_told<K, T: Spot<K>>(
     requires few { length differences.now ≤ 256 }
     ensures { result ≡ is_told_at differences.now told.now (T.place kind.now item.now) }
 {
-    for number in 0..differences.len() {
-        if item.is_at(kind, differences.item(number)) {
-            return told.has(number as u32 + 1);
-        }
+    match place_at(item, kind, differences) {
+        Some(place) => told.has(place as u32 + 1),
+        None => false,
     }
-    false
 }

@@ -11,9 +11,9 @@ use model_kit::{Model, Vocabulary, print_value};
 use mre_base::{List, NoMemory, Text};
 use std::alloc::Global;
 
-// The function values of a model.
+/// The function values of a model.
 #[derive(Clone, Copy)]
-pub(crate) struct Worths;
+pub struct Worths;
 
 // Tells the values that one model alone has, or that are other numbers in each.
 pub(crate) fn tell_values(

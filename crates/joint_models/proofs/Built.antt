@@ -19,7 +19,7 @@ use Rattle.model_kit.specs.Vocabulary.{is_ground_atom}
 use Rattle.model_kit.specs.Features.{is_value, is_action, is_model}
 use Rattle.model_kit.specs.Printed.{name_of}
 use Rattle.model_kit.specs.Pairs.{names, number_of, is_named, type_in, atom_in, value_in, schema_in, schema_named, IsModelIn}
-use Rattle.model_kit.proofs.Loops.{All_item}
+use Rattle.mre_base.proofs.Loops.{All_item}
 use Rattle.model_kit.proofs.Distinct.{ListFacts}
 use Rattle.model_kit.proofs.WordFacts.{facts_of_words}
 use Rattle.model_kit.proofs.ModelFacts.{SchemaFacts, facts_of_model, model_sound}

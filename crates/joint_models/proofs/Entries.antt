@@ -13,7 +13,7 @@ use Rattle.model_kit.specs.declared.vocabulary.Signature.{Signature}
 use Rattle.model_kit.specs.Same.{same_numbers}
 use Rattle.model_kit.specs.Pairs.{names, number_of, is_named}
 use Rattle.model_kit.proofs.Alike.{same_numbers-decides}
-use Rattle.model_kit.proofs.Loops.{take_item, drop_item}
+use Rattle.mre_base.proofs.Loops.{take_item, drop_item}
 use Rattle.joint_models.specs.Listed.{entry_named, ArePlaces}
 
 -- ---- one entry more in front

@@ -9,7 +9,7 @@ use Rattle.std.proofs.lemmas.List.Elements.{filter-append}
 use Rattle.model_kit.specs.declared.vocabulary.Signature.{Signature}
 use Rattle.model_kit.specs.Pairs.{is_named}
 use Rattle.model_kit.specs.Printed.{name_of}
-use Rattle.model_kit.proofs.Loops.{take_item}
+use Rattle.mre_base.proofs.Loops.{take_item}
 use Rattle.joint_models.specs.Renaming.{number_at, joined_by}
 use Rattle.joint_models.proofs.Mapped.{range_more}
 

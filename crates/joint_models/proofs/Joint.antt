@@ -14,7 +14,7 @@ use Rattle.model_kit.specs.declared.vocabulary.Signature.{Signature}
 use Rattle.model_kit.specs.Names.{is_name}
 use Rattle.model_kit.specs.Words.{is_signature, is_vocabulary}
 use Rattle.model_kit.specs.Pairs.{Agree, IsJoint, type_name, type_in, names, number_of, is_named}
-use Rattle.model_kit.proofs.Loops.{All_item}
+use Rattle.mre_base.proofs.Loops.{All_item}
 use Rattle.model_kit.proofs.Distinct.{all_decides}
 use Rattle.model_kit.proofs.WordFacts.{SignatureFacts, signature_types, facts_of_words, words_sound}
 use Rattle.joint_models.specs.declared.group.Group.TheVariants.{Types, Objects, Actions, Predicates, Functions}

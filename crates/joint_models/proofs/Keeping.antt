@@ -14,7 +14,7 @@ use Rattle.model_kit.specs.Vocabulary.{is_object_of, is_term_of, fits_signature}
 use Rattle.model_kit.specs.Words.{is_signature}
 use Rattle.model_kit.specs.Printed.{name_of}
 use Rattle.model_kit.specs.Pairs.{type_name, names, number_of, type_in, object_in, term_in}
-use Rattle.model_kit.proofs.Loops.{All_item}
+use Rattle.mre_base.proofs.Loops.{All_item}
 use Rattle.model_kit.proofs.WordFacts.{TypeFacts, type_listed, signature_types, facts_of_words}
 use Rattle.model_kit.proofs.TypeLemmas.{steps_up, from_steps_up, is_of_type-trans, entry_passes, entry_from}
 use Rattle.joint_models.specs.declared.group.Group.{Group}

@@ -15,7 +15,7 @@ use Rattle.model_kit.specs.Same.{same_numbers}
 use Rattle.model_kit.specs.Pairs.{names}
 use Rattle.model_kit.specs.Differences.{IsPrintedBefore}
 use Rattle.model_kit.proofs.Alike.{same_numbers-decides}
-use Rattle.model_kit.proofs.Loops.{take_item}
+use Rattle.mre_base.proofs.Loops.{take_item}
 use Rattle.model_kit.proofs.StepLemmas.{map_contains}
 use Rattle.joint_models.specs.declared.group.Group.{Group}
 use Rattle.joint_models.specs.Listed.{entry_named}

@@ -4,7 +4,7 @@ use Rattle.std.specs.Prelude.{slice_get}
 use Rattle.std.specs.List.{join_with_byte}
 use Rattle.std.proofs.lemmas.List.{map-append, append-nil, length-take-le, length-map}
 use Rattle.std.proofs.lemmas.Option.{slice_get_within}
-use Rattle.model_kit.proofs.Loops.{take_item}
+use Rattle.mre_base.proofs.Loops.{take_item}
 
 joined_more : (t : List ℕ) (ts : List (List ℕ)) (u : List ℕ) → join_with_byte 32 ((t ∷ ts) ++ u ∷ []) ≡ join_with_byte 32 (t ∷ ts) ++ (32 ∷ u)
 joined_more t [] u = refl

@@ -88,34 +88,3 @@ fn typed_entry(alloc: Global, entry: &(Text, u32)) -> Result<Signature, NoMemory
         params,
     })
 }
-
-pub(crate) fn copy_typed(
-    alloc: Global,
-    list: &List<(Text, u32)>,
-) -> Result<List<(Text, u32)>, NoMemory>
-    ensures ok { IfOk result (λ made. made ≡ list.now) }
-{
-    let mut made = List::empty(alloc);
-    for place in 0..list.len() {
-        let (name, number) = list.item(place);
-        made.push((name.copy(alloc)?, *number))?;
-    }
-    Ok(made)
-}
-
-pub(crate) fn copy_entries(
-    alloc: Global,
-    list: &List<Signature>,
-) -> Result<List<Signature>, NoMemory>
-    ensures ok { IfOk result (λ made. made ≡ list.now) }
-{
-    let mut made = List::empty(alloc);
-    for place in 0..list.len() {
-        let entry = list.item(place);
-        made.push(Signature {
-            name: entry.name.copy(alloc)?,
-            params: entry.params.copy(alloc)?,
-        })?;
-    }
-    Ok(made)
-}

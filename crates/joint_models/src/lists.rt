@@ -2,9 +2,9 @@ ghost use Rattle.std.specs.Prelude.{◌≡◌, IfOk};
 ghost use Rattle.joint_models.specs.Lists.{AreListsOf, listed_in};
 
 use crate::group::Group;
-use crate::listed::{Listed, copy_entries, typed_entries};
+use crate::listed::{Listed, typed_entries};
 use model_kit::Vocabulary;
-use mre_base::NoMemory;
+use mre_base::{Copied, NoMemory};
 use std::alloc::Global;
 
 /// All that a vocabulary lists, found by names.
@@ -35,9 +35,9 @@ impl Lists {
         Ok(Lists {
             types: Listed::of(alloc, typed_entries(alloc, &words.types)?)?,
             objects: Listed::of(alloc, typed_entries(alloc, &words.objects)?)?,
-            actions: Listed::of(alloc, copy_entries(alloc, &words.actions)?)?,
-            predicates: Listed::of(alloc, copy_entries(alloc, &words.predicates)?)?,
-            functions: Listed::of(alloc, copy_entries(alloc, &words.functions)?)?,
+            actions: Listed::of(alloc, words.actions.copied(alloc)?)?,
+            predicates: Listed::of(alloc, words.predicates.copied(alloc)?)?,
+            functions: Listed::of(alloc, words.functions.copied(alloc)?)?,
         })
     }
 

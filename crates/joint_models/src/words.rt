@@ -3,11 +3,11 @@ ghost use Rattle.model_kit.specs.Pairs.{Agree, IsJoint};
 ghost use Rattle.joint_models.specs.Lists.{AreListsOf};
 ghost use Rattle.joint_models.specs.Renaming.{joined_by};
 
-use crate::listed::{Listed, copy_entries, copy_typed};
+use crate::listed::Listed;
 use crate::lists::Lists;
 use crate::numbers::{numbers_at, numbers_between};
 use model_kit::{Signature, Vocabulary};
-use mre_base::{List, NoMemory};
+use mre_base::{Copied, List, NoMemory};
 use std::alloc::Global;
 
 /// The joint vocabulary of two vocabularies that agree.
@@ -25,8 +25,8 @@ pub(crate) fn joint_words(
 {
     let types = numbers_between(alloc, &user_lists.types.entries, &planner_lists.types)?;
     Ok(Vocabulary {
-        types: copy_typed(alloc, &planner.types)?,
-        objects: copy_typed(alloc, &planner.objects)?,
+        types: planner.types.copied(alloc)?,
+        objects: planner.objects.copied(alloc)?,
         predicates: joined(alloc, &planner_lists.predicates, &user.predicates, &types)?,
         functions: joined(alloc, &planner_lists.functions, &user.functions, &types)?,
         actions: joined(alloc, &planner_lists.actions, &user.actions, &types)?,
@@ -42,7 +42,7 @@ fn joined(
 ) -> Result<List<Signature>, NoMemory>
     ensures ok { IfOk result (λ made. made ≡ joined_by types.now planner.now.entries user.now) }
 {
-    let mut made = copy_entries(alloc, &planner.entries)?;
+    let mut made = planner.entries.copied(alloc)?;
     for place in 0..user.len() {
         let entry = user.item(place);
         if !planner.has(&entry.name) {

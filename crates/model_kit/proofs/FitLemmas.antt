@@ -6,7 +6,7 @@ use Rattle.std.proofs.lemmas.Bool.{true≢false, and_from, not-true, not_from_fa
 use Rattle.std.specs.Cmp.{first_so, second_so}
 use Rattle.std.specs.Cmp.Lexicographic.{pointwise}
 use Rattle.model_kit.specs.Names.{are_distinct}
-use Rattle.model_kit.proofs.Loops.{drop_item}
+use Rattle.mre_base.proofs.Loops.{drop_item}
 use Rattle.model_kit.proofs.WordFacts.{below_decides}
 
 module _ {X Y : Type 0} (is_of : X → Y → Bool) where

@@ -19,7 +19,7 @@ use Rattle.model_kit.specs.Runs.{State, cost_of, Needs, Applies, After, Leads, I
 use Rattle.model_kit.specs.Judgement.{IsFirstPrinted, Lacks, IsOpen, StopsAt, Judges}
 use Rattle.model_kit.specs.Judging.{has, StateOf, IsMissing, Steps}
 use Rattle.model_kit.proofs.Alike.{same_atom-decides}
-use Rattle.model_kit.proofs.Loops.{take_item, drop_item}
+use Rattle.mre_base.proofs.Loops.{take_item, drop_item}
 use Rattle.model_kit.proofs.StepLemmas.{listed_from_any, any_from_listed}
 use Rattle.model_kit.proofs.RunLemmas.{Alike, applies_alike, after_alike, leads_weaker, leads_join}
 

@@ -1,6 +1,5 @@
 pub mod Fits
 pub mod Forms
-pub mod Loops
 pub mod StateLemmas
 pub mod TableLemmas
 pub mod ActionLemmas
@@ -28,3 +27,4 @@ pub mod WordFacts
 pub mod ModelFacts
 pub mod TypeLemmas
 pub mod FormLemmas
+pub mod NumberLemmas

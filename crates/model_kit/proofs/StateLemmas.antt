@@ -14,7 +14,7 @@ use Rattle.model_kit.specs.Same.{same_numbers, same_atom}
 use Rattle.model_kit.specs.Runs.{instance}
 use Rattle.model_kit.specs.Judging.{atom_cmp, term_cmp, has}
 use Rattle.model_kit.proofs.Alike.{same_atom-decides}
-use Rattle.model_kit.proofs.Loops.{list_any_item}
+use Rattle.mre_base.proofs.Loops.{list_any_item}
 
 -- a test of the images is a test of the items
 pub list_any-map : {X Y : Type 0} (p : Y → Bool) (f : X → Y) (xs : List X) → list_any p (map f xs) ≡ list_any (λ x. p (f x)) xs

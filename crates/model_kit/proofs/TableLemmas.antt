@@ -7,7 +7,7 @@ use Rattle.model_kit.specs.declared.values.FunctionTerm.{FunctionTerm}
 use Rattle.model_kit.specs.Same.{same_numbers}
 use Rattle.model_kit.specs.Places.{value_of}
 use Rattle.model_kit.specs.Judging.{term_cmp}
-use Rattle.model_kit.proofs.Loops.{drop_item}
+use Rattle.mre_base.proofs.Loops.{drop_item}
 use Rattle.model_kit.proofs.StateLemmas.{term_cmp-ties}
 
 pub table_more : (values : List (ℕ × List ℕ × ℕ)) (i : ℕ) (v : ℕ × List ℕ × ℕ) → 0 < i → slice_get values (i - 1) ≡ Some v → (key : FunctionTerm) → key.function ≡ v.0 → key.objects ≡ v.1

@@ -15,7 +15,7 @@ use Rattle.model_kit.specs.declared.atom.Term.TheVariants.{Param, Object}
 use Rattle.model_kit.specs.Types.{parent, ancestor, is_of_type}
 use Rattle.model_kit.specs.Vocabulary.{is_object_of, is_term_of, fits_signature}
 use Rattle.model_kit.specs.Runs.{object_of}
-use Rattle.model_kit.proofs.Loops.{All_item}
+use Rattle.mre_base.proofs.Loops.{All_item}
 use Rattle.model_kit.proofs.WordFacts.{TypeFacts, type_listed, facts_of_words}
 
 -- a test passes at a number of a range

@@ -1,5 +1,5 @@
 -- The differences of two models, and the user's model after some of them are told.
-use Rattle.std.specs.Prelude.{ℕ, ◌≡◌, ◌≢◌, ◌+◌, ◌*◌, ◌<◌, ◌⊎◌, Bool, false, List, [], ◌∷◌, length, Contains, AllPairs, if◌then◌else◌}
+use Rattle.std.specs.Prelude.{ℕ, ◌≡◌, ◌≢◌, ◌+◌, ◌*◌, ◌<◌, ◌⊎◌, Bool, false, Option, None, Some, List, [], ◌∷◌, length, Contains, AllPairs, if◌then◌else◌}
 use Rattle.std.specs.Ordering.{nat_cmp}
 use Rattle.std.specs.Cmp.Lexicographic.{slice_cmp}
 use Rattle.std.specs.declared.cmp.Ordering.TheVariants.{Less}
@@ -38,6 +38,11 @@ pub record AreDifferences (words : Vocabulary) (planner user : Meaning) (places 
 abbrev pub is_told : ℕ → List Place → (ℕ → Bool) → Place → Bool
 is_told k [] passes p = false
 is_told k (q ∷ places) passes p = if same_place q p then passes k else is_told (k + 1) places passes p
+
+-- the number of the difference at a place, where the places of the list are numbered from k on
+abbrev pub number_from : ℕ → List Place → Place → Option ℕ
+number_from k [] place = None
+number_from k (first ∷ places) place = if same_place first place then Some k else number_from (k + 1) places place
 
 -- each place whose number is in the set as the planner has it, and each other place as the user has it
 abbrev pub patched : Meaning → Meaning → List Place → set.FinSet nat_cmp → Meaning

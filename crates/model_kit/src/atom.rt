@@ -5,7 +5,7 @@ ghost use Rattle.std.specs.Cmp.Lexicographic.{pointwise, slice_cmp};
 ghost use Rattle.std.specs.Ordering.{nat_cmp, on, then_cmp, eq_of_both, as_partial_cmp};
 ghost use Rattle.std.proofs.Common.{rules};
 
-use mre_base::{List, NoMemory};
+use mre_base::{Copied, List, NoMemory};
 use std::alloc::Global;
 use std::cmp::Ordering;
 
@@ -80,6 +80,27 @@ impl GroundAtom {
         Ok(GroundAtom {
             predicate: self.predicate,
             objects: self.objects.copy(alloc)?,
+        })
+    }
+}
+
+impl Copied for GroundAtom {
+    fn copied(&self, alloc: Global) -> Result<GroundAtom, NoMemory> {
+        self.copy(alloc)
+    }
+}
+
+impl Copied for Term {
+    fn copied(&self, _alloc: Global) -> Result<Term, NoMemory> {
+        Ok(*self)
+    }
+}
+
+impl Copied for SchemaAtom {
+    fn copied(&self, alloc: Global) -> Result<SchemaAtom, NoMemory> {
+        Ok(SchemaAtom {
+            predicate: self.predicate,
+            args: self.args.copied(alloc)?,
         })
     }
 }

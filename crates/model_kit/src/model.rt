@@ -2,7 +2,8 @@ ghost use Rattle.std.specs.Prelude.{IsTrue};
 ghost use Rattle.model_kit.specs.Features.{is_model};
 
 use crate::{GroundAtom, SchemaAtom, Term, Vocabulary};
-use mre_base::List;
+use mre_base::{Copied, List, NoMemory};
+use std::alloc::Global;
 
 /// What an action schema costs.
 #[derive(Debug, Drop)]
@@ -10,6 +11,18 @@ pub enum CostExpr {
     Number(u32),
     /// The value of a function at the objects that the terms stand for.
     Call { function: u32, args: List<Term> },
+}
+
+impl Copied for CostExpr {
+    fn copied(&self, alloc: Global) -> Result<CostExpr, NoMemory> {
+        match self {
+            CostExpr::Number(number) => Ok(CostExpr::Number(*number)),
+            CostExpr::Call { function, args } => Ok(CostExpr::Call {
+                function: *function,
+                args: args.copied(alloc)?,
+            }),
+        }
+    }
 }
 
 /// An action schema: its preconditions, the atoms that it adds and deletes, and its cost.

@@ -1,7 +1,8 @@
 ghost use Rattle.std.specs.Prelude.{IsTrue};
 ghost use Rattle.model_kit.specs.Words.{is_vocabulary};
 
-use mre_base::{List, Text};
+use mre_base::{Copied, List, NoMemory, Text};
+use std::alloc::Global;
 
 /// The name of a predicate, function or action, and the types of its parameters by position.
 #[derive(Debug)]
@@ -13,6 +14,15 @@ pub struct Signature {
 impl Drop for Signature {
     fn drop(self) {
         let Signature { name: _, params: _ } = self;
+    }
+}
+
+impl Copied for Signature {
+    fn copied(&self, alloc: Global) -> Result<Signature, NoMemory> {
+        Ok(Signature {
+            name: self.name.copy(alloc)?,
+            params: self.params.copy(alloc)?,
+        })
     }
 }
 
@@ -39,5 +49,17 @@ impl Drop for Vocabulary {
             functions: _,
             actions: _,
         } = self;
+    }
+}
+
+impl Copied for Vocabulary {
+    fn copied(&self, alloc: Global) -> Result<Vocabulary, NoMemory> {
+        Ok(Vocabulary {
+            types: self.types.copied(alloc)?,
+            objects: self.objects.copied(alloc)?,
+            predicates: self.predicates.copied(alloc)?,
+            functions: self.functions.copied(alloc)?,
+            actions: self.actions.copied(alloc)?,
+        })
     }
 }

@@ -1,6 +1,7 @@
 pub mod BitWords
 pub mod ListBefore
 pub mod ListOrder
+pub mod Loops
 pub mod PlaceWords
 pub mod SameNodes
 pub mod SetsBelow

@@ -2,6 +2,7 @@
 #![tactic(auto)]
 
 mod bits;
+mod copied;
 mod kind;
 mod list;
 mod no_memory;
@@ -13,9 +14,10 @@ mod text;
 mod words;
 
 pub use bits::Bits;
+pub use copied::Copied;
 pub use kind::{Kind, Side};
 pub use list::List;
-pub use no_memory::NoMemory;
+pub use no_memory::{NoMemory, narrowed};
 pub use node::Node;
 pub use node_log::{NodeLog, PushStop};
 pub use places::{MOST_PLACES, Places};

@@ -1,3 +1,5 @@
+ghost use Rattle.std.specs.Prelude.{◌≡◌, IfOk};
+
 use std::alloc::{AllocError, AllocFailed};
 use thiserror::Error;
 
@@ -16,4 +18,11 @@ impl<T: Drop> From<AllocFailed<T>> for NoMemory {
     fn from(_failure: AllocFailed<T>) -> NoMemory {
         NoMemory
     }
+}
+
+/// A count in 32 bits. A larger one counts as want of memory: no memory holds so much.
+pub fn narrowed(count: usize) -> Result<u32, NoMemory>
+    ensures { IfOk result (λ number. number ≡ count) }
+{
+    u32::try_from(count).map_err(|_| NoMemory)
 }

@@ -7,7 +7,7 @@ use Rattle.std.specs.Option.{option_map}
 use Rattle.std.specs.FinMap as files_map
 use Rattle.std.proofs.lemmas.Bool.{true≢false}
 use Rattle.std.proofs.lemmas.Option.{slice_get-map, slice_get-get_or}
-use Rattle.model_kit.proofs.Loops.{All_item}
+use Rattle.mre_base.proofs.Loops.{All_item}
 use Rattle.mre_outside.specs.Shelves.{Files}
 use Rattle.mre_outside.specs.declared.shelf.ShelfCall.{ShelfCall}
 use Rattle.mre_top.specs.declared.refusal.Refusal.{Refusal}

@@ -17,7 +17,7 @@ use Rattle.case_kit.specs.Members.{holds, atoms_after}
 use Rattle.case_kit.proofs.CaseLists.{in_where, where_has}
 use Rattle.named_tables.specs.Models.{Models, after_told, EitherHas}
 use Rattle.named_tables.specs.Tables.{IsNumber, IsWhen, AreCases}
-use Rattle.named_tables.proofs.NumberLemmas.{told_is}
+use Rattle.model_kit.proofs.NumberLemmas.{told_is}
 
 -- the numbers of the set are those of the atoms with a property
 abbrev pub AreNumbered : (GroundAtom → ℕ) → (GroundAtom → Type 0) → Numbers → Type 0

@@ -16,7 +16,7 @@ use Rattle.model_kit.proofs.StepLemmas.{listed_from_any}
 use Rattle.case_kit.specs.declared.cases.When.TheVariants.{Always, IfLeft}
 use Rattle.case_kit.specs.declared.action.CaseAction.{CaseAction}
 use Rattle.case_kit.specs.declared.table.CaseTable.{CaseTable}
-use Rattle.case_kit.proofs.CaseLists.{contains_here}
+use Rattle.mre_base.proofs.Loops.{contains_here}
 use Rattle.named_tables.specs.Models.{EitherHas}
 use Rattle.named_tables.specs.Reachable.{Thing, Atom, Action, Reachable, Initial, Enabled, Added}
 use Rattle.named_tables.specs.Numbered.{ListsReachable}

@@ -1,16 +1,12 @@
--- The numbers of atoms and of differences.
-use Rattle.std.proofs.Common.{◌≡◌, ℕ, ◌+◌, ◌≤◌, ◌<◌, zero, suc, Bool, true, false, not, cond, List, [], ◌∷◌, length, Some, refl, sym, ap, ◌∙◌, arith, ⊎_elim}
+-- The numbers of atoms.
+use Rattle.std.proofs.Common.{◌≡◌, ◌+◌, ◌≤◌, ◌<◌, zero, suc, true, false, not, cond, List, [], ◌∷◌, length, Some, sym, ap, ◌∙◌, arith, ⊎_elim}
 use Rattle.std.specs.Prelude.{Contains, slice_get}
-use Rattle.std.specs.Option.{option_map_or}
 use Rattle.std.proofs.lemmas.Bool.{cases_Bool, true≢false}
 use Rattle.model_kit.specs.declared.atom.GroundAtom.{GroundAtom}
 use Rattle.model_kit.specs.Same.{same_atom}
-use Rattle.model_kit.specs.Places.{Place, same_place}
-use Rattle.model_kit.specs.Differences.{is_told}
 use Rattle.model_kit.proofs.Alike.{same_atom-decides}
-use Rattle.named_tables.specs.Tables.{number_in, number_from}
+use Rattle.named_tables.specs.Tables.{number_in}
 
--- ---- atoms
 number_first : (atom first : GroundAtom) (atoms : List GroundAtom) → same_atom atom first ≡ true → number_in (first ∷ atoms) atom ≡ 0
 number_first atom first atoms hit = ap (λ b. cond (not b) (1 + number_in atoms atom) 0) hit
 
@@ -46,13 +42,3 @@ number_there (first ∷ atoms) atom lt =
     (λ hit. ap (slice_get (first ∷ atoms)) (number_first atom first atoms hit) ∙ ap Some (sym ((same_atom-decides atom first).0 hit)))
     (λ miss. let e = number_later atom first atoms miss in ap (slice_get (first ∷ atoms)) e ∙ number_there atoms atom (omega (arith, e, lt)))
     (cases_Bool (same_atom atom first))
-
--- ---- differences
-pub told_is : (k : ℕ) (places : List Place) (passes : ℕ → Bool) (place : Place) → is_told k places passes place ≡ option_map_or passes (number_from k places place) false
-told_is k [] passes place = refl
-told_is k (first ∷ places) passes place = by (same_place first place) (told_is (k + 1) places passes place)
-  where
-    by : (b : Bool) → is_told (k + 1) places passes place ≡ option_map_or passes (number_from (k + 1) places place) false
-        → cond b (passes k) (is_told (k + 1) places passes place) ≡ option_map_or passes (cond b (Some k) (number_from (k + 1) places place)) false
-    by true rest = refl
-    by false rest = rest

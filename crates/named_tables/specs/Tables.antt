@@ -1,12 +1,13 @@
 -- When a case table is that of two models over lists of atoms and of ground actions: an atom has the number of its place in the list, and each case says which of the two models has its feature.
-use Rattle.std.specs.Prelude.{ℕ, ◌+◌, ◌≡◌, List, [], ◌∷◌, length, map, Option, None, Some, Contains, slice_get, if◌then◌else◌}
+use Rattle.std.specs.Prelude.{ℕ, ◌≡◌, List, length, map, None, Some, Contains, slice_get}
 use Rattle.std.specs.List.{position_or_len}
 use Rattle.model_kit.specs.declared.atom.GroundAtom.{GroundAtom}
 use Rattle.model_kit.specs.declared.atom.SchemaAtom.{SchemaAtom}
 use Rattle.model_kit.specs.declared.action.GroundAction.{GroundAction}
 use Rattle.model_kit.specs.declared.model.CostExpr.TheVariants.{Number, Call}
 use Rattle.model_kit.specs.Same.{same_atom}
-use Rattle.model_kit.specs.Places.{Place, Init, Goal, Knows, Pre, Add, Del, Cost, Value, Content, Price, same_place}
+use Rattle.model_kit.specs.Places.{Place, Init, Goal, Knows, Pre, Add, Del, Cost, Value, Content, Price}
+use Rattle.model_kit.specs.Differences.{number_from}
 use Rattle.model_kit.specs.Runs.{Has, instance, object_of, worth}
 use Rattle.case_kit.specs.declared.cases.When.{When}
 use Rattle.case_kit.specs.declared.cases.When.TheVariants.{Always, IfTold, IfLeft}
@@ -22,11 +23,6 @@ use Rattle.named_tables.specs.Models.{Models, EitherHas}
 -- the number of an atom: its place in the list, or the number of all listed atoms, which stands for what can never be true
 abbrev pub number_in : List GroundAtom → GroundAtom → ℕ
 number_in atoms atom = position_or_len (same_atom atom) atoms
-
--- the number of a difference, where the places of the list are numbered from k on
-abbrev pub number_from : ℕ → List Place → Place → Option ℕ
-number_from k [] place = None
-number_from k (first ∷ places) place = if same_place first place then Some k else number_from (k + 1) places place
 
 -- the difference at the place has the number
 abbrev pub IsNumber : Models → Place → ℕ → Type 0

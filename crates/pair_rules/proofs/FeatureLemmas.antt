@@ -16,9 +16,9 @@ use Rattle.model_kit.specs.Places.{Place, Content, Feature, Price, Worth, Nothin
 use Rattle.model_kit.specs.Runs.{Has, is_on, worth}
 use Rattle.model_kit.proofs.Alike.{same_atom-decides, same_schema_atom-decides, same_numbers-decides}
 use Rattle.model_kit.proofs.PlaceLemmas.{listed_place, unlisted_place}
-use Rattle.model_kit.proofs.StateLemmas.{list_any-map}
+use Rattle.model_kit.proofs.NumberLemmas.{number_some}
 use Rattle.model_kit.proofs.StepLemmas.{listed_from_any, any_from_listed, contained_map}
-use Rattle.case_kit.proofs.CaseLists.{contains_cases, contains_here, contains_later}
+use Rattle.mre_base.proofs.Loops.{contains_cases, contains_here, contains_later}
 use Rattle.feature_diff.specs.declared.difference.Difference.{Difference}
 use Rattle.feature_diff.specs.declared.difference.Difference.TheVariants.{Init, Goal, Knows, Pre, Add, Del, Cost, Value}
 use Rattle.feature_diff.specs.Differing.{place_of, places_of, planner_content, user_content, Says, AreDifferencesOf}
@@ -219,18 +219,18 @@ module _ (planner user : Model) (differences : List Difference) (all : AreDiffer
     pub adds_are : (f : SchemaAtom) → Contains (adds_of differences action schema) f ↔ (Has (meaning planner) (place.Add action f) ⊎ Has (meaning user) (place.Add action f))
     adds_are = either_is (place.Add action) (user_add action) schema.add (part_is (λ s. s.add)) (alone_add action) (side_add action)
 
-    tested : (f : SchemaAtom) → list_any (is_pre action f) differences ≡ list_any (λ q. same_place q (place.Pre action f)) (places_of differences)
-    tested f = sym (list_any-map (λ q. same_place q (place.Pre action f)) place_of differences)
+    tested : (f : SchemaAtom) → is_pre action f differences ≡ list_any (λ q. same_place q (place.Pre action f)) (places_of differences)
+    tested f = number_some 0 (places_of differences) (place.Pre action f)
 
     pub needs_are : (f : SchemaAtom) → Contains (needs_of differences action schema) f ↔ (Has (meaning planner) (place.Pre action f) × Has (meaning user) (place.Pre action f))
     needs_are f = (
       λ there.
-          let (own, passes) = filter_has (λ atom. not (list_any (is_pre action atom) differences)) schema.pre f there in
+          let (own, passes) = filter_has (λ atom. not (is_pre action atom differences)) schema.pre f there in
           let planner_has = (part_is (λ s. s.pre) f).0 own in
-          (planner_has, sym (ap is_on (all.all.agree (place.Pre action f) (unlisted_place (place.Pre action f) (places_of differences) (sym (tested f) ∙ not_true (list_any (is_pre action f) differences) passes)))) ∙ planner_has),
+          (planner_has, sym (ap is_on (all.all.agree (place.Pre action f) (unlisted_place (place.Pre action f) (places_of differences) (sym (tested f) ∙ not_true (is_pre action f differences) passes)))) ∙ planner_has),
       λ (planner_has, user_has).
-          filter_keeps (λ atom. not (list_any (is_pre action atom) differences)) schema.pre f ((part_is (λ s. s.pre) f).1 planner_has)
-          (elim (cases_Bool (list_any (is_pre action f) differences)) [
+          filter_keeps (λ atom. not (is_pre action atom differences)) schema.pre f ((part_is (λ s. s.pre) f).1 planner_has)
+          (elim (cases_Bool (is_pre action f differences)) [
             | inr none ↦ ap not none
             | inl some ↦ absurd (all.all.differ (place.Pre action f) (listed_place (place.Pre action f) (places_of differences) (sym (tested f) ∙ some)) (ap Feature planner_has ∙ sym (ap Feature user_has)))
           ]),

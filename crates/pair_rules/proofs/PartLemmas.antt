@@ -5,8 +5,7 @@ use Rattle.std.specs.List.{filter_map, cons_option}
 use Rattle.std.proofs.lemmas.List.{append_assoc, append-nil}
 use Rattle.std.proofs.lemmas.List.Elements.{filter-append, filter_map-append}
 use Rattle.std.proofs.lemmas.Bool.{true≢false}
-use Rattle.model_kit.proofs.Loops.{take_item}
-use Rattle.case_kit.proofs.CaseLists.{contains_cases, contains_here, contains_later}
+use Rattle.mre_base.proofs.Loops.{take_item, contains_cases, contains_here, contains_later}
 
 module _ {X : Type 0} (xs : List X) (i : ℕ) (x : X) (here : slice_get xs i ≡ Some x) where
   filtered : (p : X → Bool) (b : Bool) → p x ≡ b → filter p (take (i + 1) xs) ≡ filter p (take i xs) ++ cond b (x ∷ []) []

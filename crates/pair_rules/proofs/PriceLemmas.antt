@@ -1,14 +1,13 @@
 -- Whether an action has a cost after some set of differences, by the costs of its rule.
-use Rattle.std.proofs.Common.{◌≡◌, ℕ, suc, nat_eq, ◌+◌, ◌||◌, ◌&&◌, Bool, true, false, not, cond, None, Some, is_some, List, [], ◌∷◌, ◌∙◌, ◌⊎◌, inl, inr, refl, sym, ap, subst, map, arith}
-use Rattle.std.specs.Prelude.{◌↔◌, Contains, IsSome, slice_get}
-use Rattle.std.proofs.lemmas.Bool.{cases_Bool, true≢false, or_cases, or_left, or_right, and_from, eqb-true, eq-eqb}
+use Rattle.std.proofs.Common.{◌≡◌, ℕ, nat_eq, ◌||◌, ◌&&◌, Bool, true, false, not, cond, None, Some, is_some, List, [], ◌∙◌, ◌⊎◌, inl, inr, refl, sym, ap, subst, map, arith}
+use Rattle.std.specs.Prelude.{◌↔◌, Contains, IsSome}
+use Rattle.std.proofs.lemmas.Bool.{true≢false, or_cases, or_left, or_right, and_from, eqb-true, eq-eqb}
 use Rattle.model_kit.specs.declared.model.Model.{Model}
 use Rattle.model_kit.specs.declared.model.CostExpr.{CostExpr}
 use Rattle.model_kit.specs.declared.model.CostExpr.TheVariants.{Number, Call}
 use Rattle.model_kit.specs.declared.action.GroundAction.{GroundAction}
-use Rattle.model_kit.specs.Places.{Place, Knows, Cost, Value, Price, meaning, same_place}
+use Rattle.model_kit.specs.Places.{Place, Knows, Cost, Value, Price, meaning}
 use Rattle.model_kit.specs.Runs.{is_on, worth, object_of, price_of}
-use Rattle.model_kit.proofs.Alike.{same_place-decides}
 use Rattle.model_kit.proofs.StepLemmas.{map_contains}
 use Rattle.case_kit.specs.declared.cases.When.{When}
 use Rattle.case_kit.specs.declared.cases.When.TheVariants.{Always, IfTold, IfLeft}
@@ -18,51 +17,18 @@ use Rattle.case_kit.specs.declared.costs.CaseCost.{CaseCost}
 use Rattle.case_kit.specs.declared.costs.CaseCost.TheVariants as costs
 use Rattle.case_kit.specs.Parts.{stands_in_value, stands_in_cost, has_value, has_cost, speaks_of}
 use Rattle.case_kit.specs.Sound.{is_apart, is_beside}
-use Rattle.case_kit.proofs.CaseLists.{contains_cases}
 use Rattle.reach_kit.specs.declared.world.World.{World}
 use Rattle.reach_kit.specs.Relaxed.{HasValue}
 use Rattle.feature_diff.specs.declared.difference.Difference.{Difference}
 use Rattle.feature_diff.specs.Differing.{place_of, places_of, AreDifferencesOf}
 use Rattle.named_tables.specs.Models.{Models, after_told, HasSomeCost}
-use Rattle.named_tables.specs.Tables.{number_from, IsNumber, IsWhen, IsValue, IsCostOf}
+use Rattle.named_tables.specs.Tables.{IsNumber, IsWhen, IsValue, IsCostOf}
 use Rattle.named_tables.proofs.CaseLemmas.{either_has}
 use Rattle.named_tables.proofs.PriceLemmas.{priced_law}
 use Rattle.pair_rules.specs.Made.{is_known}
 use Rattle.pair_rules.specs.Ruled.{models_of}
 use Rattle.pair_rules.proofs.FeatureLemmas.{differs_or_same}
-use Rattle.pair_rules.proofs.TypeLemmas.{same_item}
-
--- ---- the numbers of places
-number_here : (k : ℕ) (first : Place) (places : List Place) (p : Place) (b : Bool) → same_place first p ≡ b → number_from k (first ∷ places) p ≡ cond b (Some k) (number_from (k + 1) places p)
-number_here k first places p b is = ap (λ c. cond c (Some k) (number_from (k + 1) places p)) is
-
-pub number_listed : (k : ℕ) (places : List Place) (p : Place) → Contains places p → (n : ℕ) × (number_from k places p ≡ Some n)
-number_listed k [] p at = absurd (omega (arith, at.1))
-number_listed k (first ∷ places) p there = elim (cases_Bool (same_place first p)) [
-  | inl same ↦ (k, number_here k first places p true same)
-  | inr apart ↦ elim (contains_cases first places p there) [
-    | inl here ↦ absurd (true≢false (sym ((same_place-decides first p).1 here) ∙ apart))
-    | inr later ↦ let (n, is) = number_listed (k + 1) places p later in (n, number_here k first places p false apart ∙ is)
-  ]
-]
-
-pub number_at : (k : ℕ) (places : List Place) (p : Place) (n : ℕ) → number_from k places p ≡ Some n → (j : ℕ) × (n ≡ k + j) × (slice_get places j ≡ Some p)
-number_at k [] p n is = absurd (cc)
-number_at k (first ∷ places) p n is = elim (cases_Bool (same_place first p)) [
-  | inl same ↦
-      let one : Some k ≡ Some n = sym (number_here k first places p true same) ∙ is in
-      let here : k ≡ n = cc in
-      (0, omega (arith, here), ap Some ((same_place-decides first p).0 same))
-  | inr apart ↦ let (j, far, at) = number_at (k + 1) places p n (sym (number_here k first places p false apart) ∙ is) in (suc j, omega (arith, far), at)
-]
-
--- a number is that of one place
-pub number_one : (places : List Place) (p q : Place) (n : ℕ) → number_from 1 places p ≡ Some n → number_from 1 places q ≡ Some n → p ≡ q
-number_one places p q n p_is q_is =
-    let (i, at_i, p_at) = number_at 1 places p n p_is in
-    let (j, at_j, q_at) = number_at 1 places q n q_is in
-    let same : j ≡ i = omega (arith, at_i, at_j) in
-    same_item (slice_get places i) p q p_at (ap (slice_get places) (sym same) ∙ q_at)
+use Rattle.model_kit.proofs.NumberLemmas.{number_listed, number_one}
 
 not_so : (b : Bool) → (b ≡ true → ⊥) → not b ≡ true
 not_so true no_way = absurd (no_way refl)

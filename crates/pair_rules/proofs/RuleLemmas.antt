@@ -1,7 +1,6 @@
 -- What is made of two models and their differences are their rules.
 use Rattle.std.proofs.Common.{◌≡◌, ℕ, suc, ◌+◌, ◌<◌, Bool, ◌||◌, not, true, false, cond, Some, List, [], ◌∷◌, ◌++◌, length, ◌∙◌, ◌⊎◌, inl, inr, refl, sym, ap, subst, get_or, arith}
 use Rattle.std.specs.Prelude.{◌↔◌, Contains, IsSome, IsTrue, slice_get, unwrap_or, All}
-use Rattle.std.specs.List.{list_any}
 use Rattle.std.specs.Option.{option_map_or}
 use Rattle.std.specs.Cmp.Lexicographic.{pointwise}
 use Rattle.std.proofs.lemmas.Bool.{or_left, and_from}
@@ -189,7 +188,7 @@ module _ (planner user : Model) (joint : user.words ≡ planner.words) (differen
     rule_whole = subst (IsRule world) (sym of.is) (record {
       params = subst (λ n. All (λ kind. kind < n) of.signature.params) (sym made.fitting.counted) (params_below words action of.signature of.signed);
       needs = All-weaker (Contains (needs_of differences action of.schema)) (λ need. ArePlaced (length of.signature.params) need.args)
-          (λ f there. atom_placed f (All-contains atom_fits of.schema.pre f own_facts.pre_kept.fit (filter_has (λ atom. not (list_any (is_pre action atom) differences)) of.schema.pre f there).0)) (needs_of differences action of.schema) (All-contains_itself (needs_of differences action of.schema));
+          (λ f there. atom_placed f (All-contains atom_fits of.schema.pre f own_facts.pre_kept.fit (filter_has (λ atom. not (is_pre action atom differences)) of.schema.pre f there).0)) (needs_of differences action of.schema) (All-contains_itself (needs_of differences action of.schema));
       costs = All-weaker (Contains (cond (is_known planner user action) costs [])) (IsPlaced (length of.signature.params)) (costs_placed (is_known planner user action)) (cond (is_known planner user action) costs []) (All-contains_itself (cond (is_known planner user action) costs []));
       adds = All-weaker (Contains (adds_of differences action of.schema)) (λ add. ArePlaced (length of.signature.params) add.args) add_placed (adds_of differences action of.schema) (All-contains_itself (adds_of differences action of.schema));
     })

@@ -15,7 +15,7 @@ use Rattle.model_kit.specs.declared.vocabulary.Signature.{Signature}
 use Rattle.model_kit.specs.Types.{parent, ancestor, is_of_type}
 use Rattle.model_kit.specs.Vocabulary.{is_object_of}
 use Rattle.model_kit.specs.Words.{is_signature}
-use Rattle.model_kit.proofs.Loops.{All_item}
+use Rattle.mre_base.proofs.Loops.{All_item}
 use Rattle.model_kit.proofs.Fits.{object_listed}
 use Rattle.model_kit.proofs.ListLemmas.{range_contains}
 use Rattle.model_kit.proofs.WordFacts.{TypeFacts, facts_of_words, type_listed, signature_types}

@@ -1,25 +1,26 @@
 -- What is made of two models and their differences: the lists of a rule and of a world.
-use Rattle.std.specs.Prelude.{ℕ, ◌≡◌, ◌==◌, ◌||◌, not, Bool, false, List, [], ◌∷◌, ◌++◌, Option, None, Some, length, map, filter, slice_get, if◌then◌else◌}
-use Rattle.std.specs.List.{list_any, filter_map}
+use Rattle.std.specs.Prelude.{ℕ, ◌≡◌, ◌==◌, ◌||◌, not, Bool, false, List, [], ◌∷◌, ◌++◌, Option, None, Some, is_some, length, map, filter, slice_get, if◌then◌else◌}
+use Rattle.std.specs.List.{filter_map}
 use Rattle.model_kit.specs.declared.vocabulary.Signature.{Signature}
 use Rattle.model_kit.specs.declared.model.Model.{Model}
 use Rattle.model_kit.specs.declared.model.Schema.{Schema}
 use Rattle.model_kit.specs.declared.model.CostExpr.{CostExpr}
 use Rattle.model_kit.specs.declared.atom.SchemaAtom.{SchemaAtom}
 use Rattle.model_kit.specs.declared.atom.GroundAtom.{GroundAtom}
-use Rattle.model_kit.specs.Places.{Knows, meaning, same_place}
+use Rattle.model_kit.specs.Places.{Knows, meaning}
 use Rattle.model_kit.specs.Places as place
+use Rattle.model_kit.specs.Differences.{number_from}
 use Rattle.model_kit.specs.Runs.{is_on}
 use Rattle.reach_kit.specs.declared.world.Rule.{Rule}
 use Rattle.reach_kit.specs.declared.world.World.{World}
 use Rattle.feature_diff.specs.declared.difference.Difference.{Difference}
 use Rattle.feature_diff.specs.declared.difference.Difference.TheVariants.{Init, Add, Cost, Value}
-use Rattle.feature_diff.specs.Differing.{place_of}
+use Rattle.feature_diff.specs.Differing.{places_of}
 use Rattle.pair_rules.specs.Fitting.{IsFitting}
 
--- the difference is on this precondition of the action
-abbrev pub is_pre : ℕ → SchemaAtom → Difference → Bool
-is_pre action atom difference = same_place (place_of difference) (place.Pre action atom)
+-- some difference is on this precondition of the action
+abbrev pub is_pre : ℕ → SchemaAtom → List Difference → Bool
+is_pre action atom differences = is_some (number_from 0 (places_of differences) (place.Pre action atom))
 
 -- what the action adds in the user's model alone, by the difference
 abbrev pub user_add : ℕ → Difference → Option SchemaAtom
@@ -49,8 +50,9 @@ key_of value = (value.0, value.1)
 abbrev pub is_known : Model → Model → ℕ → Bool
 is_known planner user action = is_on (meaning planner (Knows action)) || is_on (meaning user (Knows action))
 
+-- the preconditions that both models have, what either adds, and the costs of both
 abbrev pub needs_of : List Difference → ℕ → Schema → List SchemaAtom
-needs_of differences action schema = filter (λ atom. not (list_any (is_pre action atom) differences)) schema.pre
+needs_of differences action schema = filter (λ atom. not (is_pre action atom differences)) schema.pre
 
 abbrev pub adds_of : List Difference → ℕ → Schema → List SchemaAtom
 adds_of differences action schema = schema.add ++ filter_map (user_add action) differences
@@ -58,7 +60,7 @@ adds_of differences action schema = schema.add ++ filter_map (user_add action) d
 abbrev pub costs_of : List Difference → ℕ → Schema → List CostExpr
 costs_of differences action schema = (schema.cost ∷ []) ++ filter_map (user_cost action) differences
 
--- the rule of an action
+-- the rule of an action, which has no cost where neither model knows it
 abbrev pub rule_of : Model → Model → List Difference → ℕ → Signature → Schema → Rule
 rule_of planner user differences action signature schema = record {
   params = signature.params;
@@ -67,6 +69,7 @@ rule_of planner user differences action signature schema = record {
   adds = adds_of differences action schema;
 }
 
+-- the rule is made of the action's signature and the planner's schema
 pub record IsRuleMade (planner user : Model) (differences : List Difference) (action : ℕ) (rule : Rule) : Type 0 where
   pub signature : Signature
   pub schema : Schema
@@ -79,6 +82,7 @@ pub record AreRulesMade (planner user : Model) (differences : List Difference) (
   pub counted : length rules ≡ count
   pub each : (action : ℕ) (rule : Rule) → slice_get rules action ≡ Some rule → IsRuleMade planner user differences action rule
 
+-- the world is made of the objects of the types that parameters have, of what is true and valued in either model, and of the rules of all actions
 pub record IsWorldMade (planner user : Model) (differences : List Difference) (world : World) : Type 0 where
   pub fitting : IsFitting planner.words world.fitting
   pub initial : world.initial ≡ planner.init ++ filter_map user_init differences

@@ -5,7 +5,7 @@ ghost use Rattle.std.specs.FinSet as set;
 ghost use Rattle.pair_rules.specs.Fitting.{AreTypesOf, AreUsed, AreObjectsOf, IsFitting, has_type};
 
 use model_kit::Vocabulary;
-use mre_base::{Bits, List, NoMemory};
+use mre_base::{Bits, List, NoMemory, narrowed};
 use std::alloc::Global;
 
 // The types of an object: its own and those above it.
@@ -82,19 +82,12 @@ fn objects_of(
     Ok(made)
 }
 
-/// A count in 32 bits.
-pub(crate) fn number(count: usize) -> Result<u32, NoMemory>
-    ensures { IfOk result (λ number. number ≡ count) }
-{
-    u32::try_from(count).map_err(|_| NoMemory)
-}
-
 /// The objects of each type. A type that no parameter has gets none.
 pub(crate) fn fitting_of(alloc: Global, words: &Vocabulary) -> Result<List<List<u32>>, NoMemory>
     ensures { IfOk result (IsFitting words.now) }
 {
-    let count = number(words.types.len())?;
-    let objects = number(words.objects.len())?;
+    let count = narrowed(words.types.len())?;
+    let objects = narrowed(words.objects.len())?;
     let used = used_types(alloc, words, count)?;
     let sets = all_types(alloc, words, count)?;
     let mut made = List::empty(alloc);

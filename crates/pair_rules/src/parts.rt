@@ -1,37 +1,19 @@
 // The lists of a rule and of a world: what the planner's model has, by the differences what the user's has in its place or beside it.
 ghost use Rattle.std.specs.Prelude.{◌≡◌, ◌∷◌, [], ◌++◌, Some, None, map, filter, not, IfOk, IfSome, IfNone};
-ghost use Rattle.std.specs.List.{list_any, filter_map};
+ghost use Rattle.std.specs.List.{filter_map};
 ghost use Rattle.pair_rules.specs.Made.{is_pre, user_add as added_alone, user_init as true_alone, user_cost as costs_alone, user_key as valued, key_of};
 
-use feature_diff::{Copied, Difference, copy_all, is_same_atom};
+use feature_diff::{ActionPart, Difference, Part, place_at};
 use model_kit::{CostExpr, GroundAtom, SchemaAtom};
-use mre_base::{List, NoMemory};
+use mre_base::{Copied, List, NoMemory};
 use std::alloc::Global;
 
-// Whether a difference is on this precondition of an action.
-fn is_on_pre(action: u32, atom: &SchemaAtom, difference: &Difference) -> bool
-    ensures { result ≡ is_pre action atom.now difference.now }
-{
-    match difference {
-        Difference::Pre {
-            action: at,
-            atom: other,
-            ..
-        } => *at == action && is_same_atom(other, atom),
-        _ => false,
-    }
-}
-
-// Whether some difference is.
+// Whether some difference is on this precondition of an action.
 fn differs(action: u32, atom: &SchemaAtom, differences: &List<Difference>) -> bool
-    ensures { result ≡ list_any (is_pre action atom.now) differences.now }
+    ensures { result ≡ is_pre action atom.now differences.now }
 {
-    for place in 0..differences.len() {
-        if is_on_pre(action, atom, differences.item(place)) {
-            return true;
-        }
-    }
-    false
+    let part = Part::Pre;
+    place_at(atom, &ActionPart { action, part }, differences).is_some()
 }
 
 // What the action adds in the user's model alone, by the difference.
@@ -101,7 +83,7 @@ pub(crate) fn needs_of(
     pre: &List<SchemaAtom>,
     differences: &List<Difference>,
 ) -> Result<List<SchemaAtom>, NoMemory>
-    ensures { IfOk result (λ made. made ≡ filter (λ atom. not (list_any (is_pre action atom) differences.now)) pre.now) }
+    ensures { IfOk result (λ made. made ≡ filter (λ atom. not (is_pre action atom differences.now)) pre.now) }
 {
     let mut made = List::empty(alloc);
     for place in 0..pre.len() {
@@ -122,7 +104,7 @@ pub(crate) fn adds_of(
 ) -> Result<List<SchemaAtom>, NoMemory>
     ensures { IfOk result (λ made. made ≡ add.now ++ filter_map (added_alone action) differences.now) }
 {
-    let mut made = copy_all(alloc, add)?;
+    let mut made = add.copied(alloc)?;
     for place in 0..differences.len() {
         if let Some(atom) = user_add(action, differences.item(place)) {
             made.push(atom.copied(alloc)?)?;
@@ -139,7 +121,7 @@ pub(crate) fn facts_of(
 ) -> Result<List<GroundAtom>, NoMemory>
     ensures { IfOk result (λ made. made ≡ init.now ++ filter_map true_alone differences.now) }
 {
-    let mut made = copy_all(alloc, init)?;
+    let mut made = init.copied(alloc)?;
     for place in 0..differences.len() {
         if let Some(atom) = user_init(differences.item(place)) {
             made.push(atom.copied(alloc)?)?;

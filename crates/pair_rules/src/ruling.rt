@@ -4,10 +4,10 @@ ghost use Rattle.reach_kit.specs.Relaxed.{IsRule};
 ghost use Rattle.pair_rules.specs.Made.{IsRuleMade, AreRulesMade};
 ghost use Rattle.pair_rules.specs.Ruled.{HasRules};
 
-use crate::fitting::{fitting_of, number};
+use crate::fitting::fitting_of;
 use crate::parts::{adds_of, costs_of, facts_of, keys_of, needs_of};
 use feature_diff::{Difference, Pair, knows};
-use mre_base::{List, NoMemory};
+use mre_base::{List, NoMemory, narrowed};
 use reach_kit::{Rule, World};
 use std::alloc::Global;
 
@@ -47,7 +47,7 @@ fn all_rules(
 ) -> Result<List<Rule>, NoMemory>
     ensures { IfOk result (AreRulesMade pair.now.planner pair.now.user differences.now (length pair.now.planner.words.actions)) }
 {
-    let count = number(pair.words().actions.len())?;
+    let count = narrowed(pair.words().actions.len())?;
     let mut rules = List::empty(alloc);
     for action in 0..count {
         rules.push(rule_of(alloc, pair, differences, action)?)?;

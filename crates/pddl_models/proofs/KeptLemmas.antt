@@ -13,7 +13,7 @@ use Rattle.model_kit.specs.declared.atom.Term.{Term}
 use Rattle.model_kit.specs.declared.atom.Term.TheVariants.{Param, Object}
 use Rattle.model_kit.specs.Same.{same_numbers, same_term, same_schema_atom}
 use Rattle.model_kit.proofs.Alike.{same_numbers-decides, same_schema_atom-decides}
-use Rattle.model_kit.proofs.Loops.{drop_item}
+use Rattle.mre_base.proofs.Loops.{drop_item}
 use Rattle.pddl_models.specs.declared.unrepeated.Seen.{Seen}
 use Rattle.pddl_models.specs.Unrepeated.{with_first, same_by, term_key, terms_key, schema_atom_key, has_key, AreSeen}
 use Rattle.pddl_vocabulary.specs.Values.{firsts}

@@ -13,7 +13,7 @@ use Rattle.model_kit.specs.declared.vocabulary.Signature.{Signature}
 use Rattle.model_kit.specs.declared.vocabulary.Vocabulary.{Vocabulary}
 use Rattle.model_kit.specs.Types as numbered
 use Rattle.model_kit.specs.Words.{is_signature}
-use Rattle.model_kit.proofs.Loops.{All_item}
+use Rattle.mre_base.proofs.Loops.{All_item}
 use Rattle.model_kit.proofs.StateLemmas.{list_any-map}
 use Rattle.model_kit.proofs.WordFacts.{facts_of_words, type_listed, signature_types, SignatureFacts}
 use Rattle.pddl_names.specs.declared.role.Role.{Role}

@@ -11,7 +11,7 @@ use Rattle.std.proofs.lemmas.List.Sums.{take_while-cons}
 use Rattle.mre_base.specs.declared.text.Text.{Text}
 use Rattle.model_kit.specs.declared.model.CostExpr.{CostExpr}
 use Rattle.model_kit.specs.declared.model.CostExpr.TheVariants.{Number, Call}
-use Rattle.model_kit.proofs.Loops.{drop_item}
+use Rattle.mre_base.proofs.Loops.{drop_item}
 use Rattle.pddl_text.specs.declared.place.Place.{Place}
 use Rattle.pddl_form.specs.declared.parts.Owner.TheVariants as owner
 use Rattle.pddl_names.specs.declared.names.NameTable.{NameTable}

@@ -9,8 +9,8 @@ use crate::body::Body;
 use crate::domain::Domain;
 use crate::facts::{facts_said, values_said};
 use crate::word_tables::WordTables;
-use model_kit::{CostExpr, Model, Schema, SchemaAtom, Term, Vocabulary};
-use mre_base::{List, NoMemory};
+use model_kit::{CostExpr, Model, Schema, Vocabulary};
+use mre_base::{Copied, List, NoMemory};
 use pddl_names::{Role, Says, Word};
 use std::alloc::Global;
 
@@ -33,30 +33,6 @@ pub fn has_metric(said: &List<Word>) -> bool
     false
 }
 
-fn copy_terms(alloc: Global, terms: &List<Term>) -> Result<List<Term>, NoMemory>
-    ensures ok { IfOk result (λ made. made ≡ terms.now) }
-{
-    let mut made = List::empty(alloc);
-    for place in 0..terms.len() {
-        made.push(*terms.item(place))?;
-    }
-    Ok(made)
-}
-
-fn copy_atoms(alloc: Global, atoms: &List<SchemaAtom>) -> Result<List<SchemaAtom>, NoMemory>
-    ensures ok { IfOk result (λ made. made ≡ atoms.now) }
-{
-    let mut made = List::empty(alloc);
-    for place in 0..atoms.len() {
-        let atom = atoms.item(place);
-        made.push(SchemaAtom {
-            predicate: atom.predicate,
-            args: copy_terms(alloc, &atom.args)?,
-        })?;
-    }
-    Ok(made)
-}
-
 // What an action costs.
 fn cost_said(alloc: Global, metric: bool, increase: &Option<CostExpr>) -> Result<CostExpr, NoMemory>
     ensures ok { IfOk result (λ made. made ≡ cost_said metric increase.now) }
@@ -66,11 +42,7 @@ fn cost_said(alloc: Global, metric: bool, increase: &Option<CostExpr>) -> Result
     }
     match increase {
         None => Ok(CostExpr::Number(0)),
-        Some(CostExpr::Number(number)) => Ok(CostExpr::Number(*number)),
-        Some(CostExpr::Call { function, args }) => Ok(CostExpr::Call {
-            function: *function,
-            args: copy_terms(alloc, args)?,
-        }),
+        Some(cost) => cost.copied(alloc),
     }
 }
 
@@ -79,9 +51,9 @@ fn schema_said(alloc: Global, metric: bool, body: &Body) -> Result<Schema, NoMem
     ensures ok { IfOk result (λ made. made ≡ schema_said metric body.now) }
 {
     Ok(Schema {
-        pre: copy_atoms(alloc, &body.pre)?,
-        add: copy_atoms(alloc, &body.add)?,
-        del: copy_atoms(alloc, &body.del)?,
+        pre: body.pre.copied(alloc)?,
+        add: body.add.copied(alloc)?,
+        del: body.del.copied(alloc)?,
         cost: cost_said(alloc, metric, &body.increase)?,
     })
 }

@@ -7,7 +7,7 @@ use Rattle.std.proofs.lemmas.Bool.{true≢false}
 use Rattle.std.proofs.lemmas.List.{take-append-drop, length-take}
 use Rattle.std.proofs.lemmas.Option.{slice_get_within}
 use Rattle.model_kit.proofs.Alike.{same_numbers-decides}
-use Rattle.model_kit.proofs.Loops.{drop_item}
+use Rattle.mre_base.proofs.Loops.{drop_item}
 use Rattle.pddl_form.specs.declared.parts.Owner.TheVariants as owner
 use Rattle.pddl_names.specs.declared.kind.Kind.{Kind}
 use Rattle.pddl_names.specs.declared.kind.Kind.TheVariants as kind

@@ -7,7 +7,7 @@ use Rattle.std.proofs.lemmas.Bool.{true≢false}
 use Rattle.std.proofs.lemmas.List.{drop_all, length-map}
 use Rattle.mre_base.specs.declared.text.Text.{Text}
 use Rattle.model_kit.specs.declared.vocabulary.Signature.{Signature}
-use Rattle.model_kit.proofs.Loops.{drop_item}
+use Rattle.mre_base.proofs.Loops.{drop_item}
 use Rattle.pddl_names.specs.declared.arities.Arities.{Arities}
 use Rattle.pddl_names.specs.declared.kind.Kind.{Kind}
 use Rattle.pddl_names.specs.declared.kind.Kind.TheVariants as kind

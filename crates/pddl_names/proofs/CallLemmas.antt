@@ -17,7 +17,7 @@ use Rattle.std.proofs.lemmas.Map.Text.{is_eq-slice_cmp}
 use Rattle.std.proofs.lemmas.Option.{slice_get_within}
 use Rattle.mre_base.specs.declared.text.Text.{Text}
 use Rattle.model_kit.proofs.Alike.{same_numbers-decides}
-use Rattle.model_kit.proofs.Loops.{drop_item}
+use Rattle.mre_base.proofs.Loops.{drop_item}
 use Rattle.pddl_form.specs.Numbers.{number}
 use Rattle.pddl_names.specs.declared.calls.Call.{Call}
 use Rattle.pddl_names.specs.declared.role.Role.{Role}

@@ -4,7 +4,7 @@ use Rattle.std.specs.Prelude.{slice_get, Result, Ok, Err, IfOk, if◌then◌else
 use Rattle.std.specs.List.{list_any, between}
 use Rattle.std.proofs.lemmas.List.{take-append-drop, drop_all}
 use Rattle.std.proofs.lemmas.List.Edits.{between_none}
-use Rattle.model_kit.proofs.Loops.{take_item, drop_item}
+use Rattle.mre_base.proofs.Loops.{take_item, drop_item}
 use Rattle.pddl_text.specs.declared.fault.TextFault.{TextFault}
 use Rattle.pddl_text.specs.Answers.{Gives, IfFault}
 use Rattle.pddl_text.specs.declared.fault.ReadStop.{ReadStop}

@@ -4,7 +4,7 @@ use Rattle.std.specs.Prelude.{slice_get}
 use Rattle.std.specs.List.{position_from}
 use Rattle.std.specs.Str.{bytes_eq}
 use Rattle.mre_base.specs.declared.text.Text.{Text}
-use Rattle.model_kit.proofs.Loops.{drop_item}
+use Rattle.mre_base.proofs.Loops.{drop_item}
 use Rattle.pddl_names.specs.declared.kind.Kind.{Kind}
 use Rattle.pddl_names.specs.declared.names.NameTable.{NameTable}
 use Rattle.pddl_names.specs.declared.role.Word.{Word}

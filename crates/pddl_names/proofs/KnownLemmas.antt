@@ -5,7 +5,7 @@ use Rattle.std.proofs.lemmas.Bool.{true≢false}
 use Rattle.std.proofs.lemmas.List.{drop_all, append-nil}
 use Rattle.std.proofs.lemmas.Option.{slice_get_within}
 use Rattle.mre_base.specs.declared.text.Text.{Text}
-use Rattle.model_kit.proofs.Loops.{drop_item}
+use Rattle.mre_base.proofs.Loops.{drop_item}
 use Rattle.pddl_names.specs.declared.kind.Kind.{Kind}
 use Rattle.pddl_names.specs.declared.kind.Kind.TheVariants as kind
 use Rattle.pddl_names.specs.declared.role.Role.{Role}

@@ -7,7 +7,7 @@ use Rattle.std.proofs.lemmas.Bool.{true≢false}
 use Rattle.std.proofs.lemmas.List.{drop_all, drop-drop}
 use Rattle.mre_base.specs.declared.text.Text.{Text}
 use Rattle.model_kit.proofs.Alike.{same_numbers-decides}
-use Rattle.model_kit.proofs.Loops.{drop_item}
+use Rattle.mre_base.proofs.Loops.{drop_item}
 use Rattle.pddl_form.specs.declared.parts.Owner.TheVariants as owner
 use Rattle.pddl_names.specs.declared.names.NameTable.{NameTable}
 use Rattle.pddl_names.specs.declared.role.Role.{Role}

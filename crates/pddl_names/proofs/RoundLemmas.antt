@@ -7,7 +7,7 @@ use Rattle.std.proofs.lemmas.List.{take-append-drop, drop-drop, reverse-append}
 use Rattle.std.proofs.lemmas.List.Edits.{between_none, between_more}
 use Rattle.std.proofs.lemmas.List.Sums.{take_while-cons}
 use Rattle.std.proofs.lemmas.Option.{slice_get_within, get_or_from_slice_get}
-use Rattle.model_kit.proofs.Loops.{take_item, drop_item}
+use Rattle.mre_base.proofs.Loops.{take_item, drop_item}
 use Rattle.pddl_names.specs.declared.role.Word.{Word}
 use Rattle.pddl_names.specs.Listings.{is_term}
 use Rattle.pddl_names.specs.Naming.{is_action, action_words, head_of, terms_before}

@@ -5,7 +5,7 @@ use Rattle.std.proofs.lemmas.List.{drop_all}
 use Rattle.mre_base.specs.declared.text.Text.{Text}
 use Rattle.model_kit.specs.declared.action.GroundAction.{GroundAction}
 use Rattle.model_kit.specs.declared.vocabulary.Vocabulary.{Vocabulary}
-use Rattle.model_kit.proofs.Loops.{drop_item}
+use Rattle.mre_base.proofs.Loops.{drop_item}
 use Rattle.pddl_text.specs.Answers.{Gives}
 use Rattle.pddl_text.specs.declared.fault.ReadStop.{ReadStop}
 use Rattle.pddl_text.specs.declared.fault.ReadStop.TheVariants as stop

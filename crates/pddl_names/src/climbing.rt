@@ -9,7 +9,7 @@ ghost use Rattle.pddl_names.specs.TypeTrees.{parent_entry, with_parents, parent_
 use crate::firsts::TypedList;
 use crate::forests::{does_reach, forest_of, up};
 use crate::type_tree::TypeTree;
-use mre_base::{List, NoMemory, Text};
+use mre_base::{Copied, List, NoMemory, Text};
 use std::alloc::Global;
 
 impl TypeTree {
@@ -92,19 +92,8 @@ fn is_object(name: &Text) -> bool
 fn with_parents(alloc: Global, types: &List<(Text, Text)>) -> Result<List<(Text, Text)>, NoMemory>
     ensures ok { IfOk result (λ made. made ≡ with_parents types.now) }
 {
-    let mut made = parents_of(alloc, copy_of(alloc, types)?, types)?;
+    let mut made = parents_of(alloc, types.copied(alloc)?, types)?;
     made.push((Text::of(alloc, "object")?, Text::of(alloc, "object")?))?;
-    Ok(made)
-}
-
-fn copy_of(alloc: Global, types: &List<(Text, Text)>) -> Result<List<(Text, Text)>, NoMemory>
-    ensures ok { IfOk result (λ made. made ≡ types.now) }
-{
-    let mut made = List::empty(alloc);
-    for place in 0..types.len() {
-        let entry = types.item(place);
-        made.push((entry.0.copy(alloc)?, entry.1.copy(alloc)?))?;
-    }
     Ok(made)
 }
 

@@ -14,7 +14,7 @@ use Rattle.std.proofs.lemmas.Option.{slice_get_within, slice_get-map}
 use Rattle.mre_base.specs.declared.text.Text.{Text}
 use Rattle.model_kit.specs.Types.{parent, ancestor as number_up, is_of_type}
 use Rattle.model_kit.proofs.Alike.{same_numbers-decides}
-use Rattle.model_kit.proofs.Loops.{drop_item}
+use Rattle.mre_base.proofs.Loops.{drop_item}
 use Rattle.model_kit.proofs.TypeLemmas.{any_below, from_steps_up}
 use Rattle.pddl_text.specs.declared.fault.TextRule.TheVariants as rule
 use Rattle.pddl_text.specs.declared.place.Place.{Place}

@@ -9,7 +9,7 @@ use Rattle.std.proofs.lemmas.List.{length-take, take-append-drop}
 use Rattle.std.proofs.lemmas.List.Elements.{filter-append}
 use Rattle.std.proofs.lemmas.Option.{slice_get_within}
 use Rattle.model_kit.proofs.Alike.{same_numbers-decides}
-use Rattle.model_kit.proofs.Loops.{take_item, drop_item}
+use Rattle.mre_base.proofs.Loops.{take_item, drop_item}
 use Rattle.pddl_names.specs.declared.names.NameTable.{NameTable}
 use Rattle.pddl_names.specs.Naming.{is_none}
 use Rattle.pddl_names.specs.Numbers.{number_in}

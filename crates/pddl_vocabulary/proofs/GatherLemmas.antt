@@ -5,7 +5,7 @@ use Rattle.std.specs.List.{position_from}
 use Rattle.std.specs.Option.{option_map, unwrap_or}
 use Rattle.std.proofs.lemmas.List.{append-nil, drop_all}
 use Rattle.mre_base.specs.declared.text.Text.{Text}
-use Rattle.model_kit.proofs.Loops.{drop_item}
+use Rattle.mre_base.proofs.Loops.{drop_item}
 use Rattle.pddl_form.specs.declared.parts.Owner.{Owner}
 use Rattle.pddl_form.specs.declared.parts.Owner.TheVariants as owner
 use Rattle.pddl_names.specs.declared.kind.Kind.{Kind}

@@ -4,7 +4,6 @@
 mod formed;
 mod laws;
 mod vocabularies;
-mod vocabulary_copies;
 mod vocabulary_firsts;
 mod vocabulary_lists;
 mod vocabulary_types;

@@ -4,12 +4,11 @@ ghost use Rattle.pddl_names.specs.Listings.{nothing};
 ghost use Rattle.pddl_names.specs.Naming.{IsNamed};
 ghost use Rattle.pddl_vocabulary.specs.Values.{SaysWords, SaysMore};
 
-use crate::vocabulary_copies::copy_all;
 use crate::vocabulary_firsts::{firsts_of, with_further};
 use crate::vocabulary_lists::{entries_of, objects_listed};
 use crate::vocabulary_types::{TypeNumbers, type_words, types_of};
 use model_kit::Vocabulary;
-use mre_base::{List, NoMemory};
+use mre_base::{Copied, List, NoMemory};
 use pddl_names::{Kind, NameTable, Word, type_places};
 use std::alloc::Global;
 
@@ -61,10 +60,10 @@ pub fn vocabulary_with(
     };
     let listed = firsts_of(alloc, &objects_listed(alloc, said, &types)?)?;
     Ok(Vocabulary {
-        types: copy_all(alloc, &domain.types)?,
+        types: domain.types.copied(alloc)?,
         objects: with_further(alloc, &domain.objects, &listed)?,
-        predicates: copy_all(alloc, &domain.predicates)?,
-        functions: copy_all(alloc, &domain.functions)?,
-        actions: copy_all(alloc, &domain.actions)?,
+        predicates: domain.predicates.copied(alloc)?,
+        functions: domain.functions.copied(alloc)?,
+        actions: domain.actions.copied(alloc)?,
     })
 }

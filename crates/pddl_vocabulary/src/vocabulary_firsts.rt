@@ -5,8 +5,7 @@ ghost use Rattle.pddl_vocabulary.specs.Values.{firsts};
 ghost use Rattle.pddl_vocabulary.specs.VocabularyFirsts.{same_by, is_place, is_no_entry};
 ghost use Rattle.pddl_names.specs.Numbers.{text_name};
 
-use crate::vocabulary_copies::{Copied, copy_all};
-use mre_base::{List, NoMemory, Text};
+use mre_base::{Copied, List, NoMemory, Text};
 use pddl_names::{NameTable, Named};
 use std::alloc::Global;
 
@@ -46,7 +45,7 @@ pub fn with_further(
     ensures ok { IfOk result (λ made. made ≡ objects.now ++ filter (is_no_entry objects.now) further.now) }
 {
     let table = NameTable::of(alloc, objects)?;
-    let mut made = copy_all(alloc, objects)?;
+    let mut made = objects.copied(alloc)?;
     for place in 0..further.len() {
         let entry = further.item(place);
         if table.number(&entry.0).is_none() {

@@ -9,7 +9,7 @@ use Rattle.std.proofs.lemmas.Bool.{cases_lt}
 use Rattle.task_kit.specs.Tasks.{set_of}
 use Rattle.task_kit.proofs.AtomLemmas.{listed_in, in_list}
 use Rattle.task_kit.proofs.PlaceLemmas.{item_there, stays_push, last_push}
-use Rattle.model_kit.proofs.Loops.{take_item}
+use Rattle.mre_base.proofs.Loops.{take_item}
 use Rattle.std.proofs.lemmas.List.{map-append}
 
 -- a number is in the set of a list exactly where the list has it

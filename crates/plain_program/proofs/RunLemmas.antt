@@ -21,7 +21,7 @@ use Rattle.task_kit.specs.Bounds.{HasNoCheaper}
 use Rattle.task_kit.proofs.StepLemmas.{contains-after}
 use Rattle.task_kit.proofs.PlaceLemmas.{item_there}
 use Rattle.task_kit.proofs.JudgeLemmas.{cost_of-push}
-use Rattle.model_kit.proofs.Loops.{take_item}
+use Rattle.mre_base.proofs.Loops.{take_item}
 use Rattle.plain_program.specs.Numbered.{IsNamed, action_of, actions_of, numbers_of, IsNumbered}
 use Rattle.plain_program.proofs.NumberLemmas.{action_bare, action_fits}
 

@@ -9,7 +9,7 @@ use Rattle.std.specs.FinSet.{from_list_push, nat_cmp-IsAntisymmetric}
 use Rattle.cube_kit.specs.Cubes.{all_to}
 use Rattle.task_kit.proofs.PlaceLemmas.{item_there, same_some}
 use Rattle.model_kit.proofs.FirstLemmas as first
-use Rattle.model_kit.proofs.Loops.{map_item}
+use Rattle.mre_base.proofs.Loops.{map_item}
 use Rattle.model_kit.proofs.OrderLemmas.{Within}
 use Rattle.plain_program.specs.Subsets.{all_with, subsets}
 

@@ -16,7 +16,7 @@ use Rattle.model_kit.specs.Places.{Place, meaning}
 use Rattle.model_kit.specs.Differences.{patched}
 use Rattle.model_kit.specs.Runs.{cost}
 use Rattle.model_kit.specs.Sentences.{sentence, line, difference_line, explanation_lines, explanation}
-use Rattle.model_kit.proofs.Loops.{All_item}
+use Rattle.mre_base.proofs.Loops.{All_item}
 use Rattle.feature_diff.specs.declared.difference.Difference.{Difference}
 use Rattle.feature_diff.specs.Differing.{place_of, planner_content, user_content, places_of, Says}
 use Rattle.explain_text.specs.Lines.{numbered_line, lines_of}

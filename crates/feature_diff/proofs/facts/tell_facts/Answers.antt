@@ -7,16 +7,16 @@ use Rattle.feature_diff.proofs.facts.tell_facts.Goals as goal
 
 pub tell-requires-clause-planner_fits : goal.tell-requires-clause-planner_fits
 tell-requires-clause-planner_fits c =
-    subst (All (λ a. IsTrue (is_ground_atom c.args.planner.now.words a))) (sym c.facts.ensures) (facts_fit c.args.planner.now.words c.args.planner.now refl c.args.kind)
+    subst (All (λ a. IsTrue (is_ground_atom c.args.planner.now.words a))) (sym c.facts_in.ensures) (facts_fit c.args.planner.now.words c.args.planner.now refl c.args.kind)
 
 pub tell-requires-clause-user_fits : goal.tell-requires-clause-user_fits
 tell-requires-clause-user_fits c =
-    subst (All (λ a. IsTrue (is_ground_atom c.args.planner.now.words a))) (sym c.facts-2.ensures) (facts_fit c.args.planner.now.words c.args.user.now c.requires.joint c.args.kind)
+    subst (All (λ a. IsTrue (is_ground_atom c.args.planner.now.words a))) (sym c.facts_in-2.ensures) (facts_fit c.args.planner.now.words c.args.user.now c.requires.joint c.args.kind)
 
 pub returns : goal.returns
 returns c = record {
   ok =
       on_ok_weaker c.tell.result
-      (facts_gained c.args.planner.now c.args.user.now c.requires.joint c.args.kind c.facts.result.now c.facts-2.result.now c.facts.ensures c.facts-2.ensures c.args.gathered.now c.tell.new.gathered)
+      (facts_gained c.args.planner.now c.args.user.now c.requires.joint c.args.kind c.facts_in.result.now c.facts_in-2.result.now c.facts_in.ensures c.facts_in-2.ensures c.args.gathered.now c.tell.new.gathered)
       c.tell.ensures.ok;
 }

@@ -1,15 +1,11 @@
 use Rattle.std.proofs.Common.{◌∙◌}
-use Rattle.std.specs.FinSet as set
-use Rattle.feature_diff.proofs.ToldLemmas.{told_here, told_later}
+use Rattle.feature_diff.proofs.ToldLemmas.{told_there, told_nowhere}
 use Rattle.feature_diff.proofs.spots.is_told.Goals as goal
 
-pub returns-then-is_at : goal.returns-then-is_at
-returns-then-is_at g c =
-    c.has.ensures
-    ∙ told_here c.args.differences.now (set.contains c.args.told.now) (g.T.Spot.place c.args.kind.now c.args.item.now) c.loop-number.number c.item.result.now c.item.ensures _ c.loop-number.invariant c.is_at.result c.is_at.ensures
-    c.if-is_at.true
+pub returns-in-Some : goal.returns-in-Some
+returns-in-Some g c =
+    c.has.ensures ∙ told_there c.args.differences.now c.args.told.now (g.T.Spot.place c.args.kind.now c.args.item.now) c.place_at.result c.place_at.ensures.place c.in-Some.place c.in-Some.is
 
-pub loop-number-preserved : goal.loop-number-preserved
-loop-number-preserved g c =
-    told_later c.args.differences.now (set.contains c.args.told.now) (g.T.Spot.place c.args.kind.now c.args.item.now) c.loop-number.number c.item.result.now c.item.ensures _ c.loop-number.invariant c.is_at.result c.is_at.ensures
-    c.if-is_at.false
+pub returns-in-None : goal.returns-in-None
+returns-in-None g c =
+    told_nowhere c.args.differences.now c.args.told.now (g.T.Spot.place c.args.kind.now c.args.item.now) c.place_at.result c.place_at.ensures.place c.in-None.is

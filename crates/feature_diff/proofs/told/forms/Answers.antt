@@ -1,4 +1,4 @@
-use Rattle.model_kit.proofs.Loops.{map_item}
+use Rattle.mre_base.proofs.Loops.{map_item}
 use Rattle.feature_diff.proofs.told.forms.Goals as goal
 
 pub loop-place-preserved : goal.loop-place-preserved

@@ -1,5 +1,5 @@
 use Rattle.feature_diff.specs.Gathering.{row_told, AreWithin}
-use Rattle.model_kit.proofs.Loops.{All_item}
+use Rattle.mre_base.proofs.Loops.{All_item}
 use Rattle.feature_diff.proofs.GatherLemmas.{grows_none, grows_row}
 use Rattle.feature_diff.proofs.told.tell_rows.Goals as goal
 

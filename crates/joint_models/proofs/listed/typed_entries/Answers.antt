@@ -1,4 +1,4 @@
-use Rattle.model_kit.proofs.Loops.{map_item}
+use Rattle.mre_base.proofs.Loops.{map_item}
 use Rattle.joint_models.specs.Listed.{typed_entry}
 use Rattle.joint_models.proofs.listed.typed_entries.Goals as goal
 

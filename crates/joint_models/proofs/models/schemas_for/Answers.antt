@@ -1,5 +1,5 @@
 use Rattle.std.proofs.Common.{◌++◌, ◌∷◌, [], subst, sym}
-use Rattle.model_kit.proofs.Loops.{take_item}
+use Rattle.mre_base.proofs.Loops.{take_item}
 use Rattle.joint_models.specs.Renaming.{AreSchemasFor}
 use Rattle.joint_models.proofs.Schemas.{schemas_more}
 use Rattle.joint_models.proofs.models.schemas_for.Goals as goal

@@ -1,4 +1,4 @@
-use Rattle.model_kit.proofs.Loops.{map_item}
+use Rattle.mre_base.proofs.Loops.{map_item}
 use Rattle.joint_models.specs.Renaming.{number_at}
 use Rattle.joint_models.proofs.numbers.numbers_at.Goals as goal
 

@@ -1,5 +1,5 @@
 use Rattle.model_kit.specs.Pairs.{names, number_of}
-use Rattle.model_kit.proofs.Loops.{map_item}
+use Rattle.mre_base.proofs.Loops.{map_item}
 use Rattle.joint_models.proofs.numbers.numbers_between.Goals as goal
 
 pub loop-place-preserved : goal.loop-place-preserved

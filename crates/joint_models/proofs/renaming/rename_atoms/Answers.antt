@@ -1,5 +1,5 @@
 use Rattle.model_kit.specs.declared.atom.GroundAtom.{GroundAtom}
-use Rattle.model_kit.proofs.Loops.{map_item}
+use Rattle.mre_base.proofs.Loops.{map_item}
 use Rattle.joint_models.specs.Renaming.{atom_by}
 use Rattle.joint_models.proofs.renaming.rename_atoms.Goals as goal
 

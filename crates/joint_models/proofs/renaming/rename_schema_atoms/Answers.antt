@@ -1,5 +1,5 @@
 use Rattle.model_kit.specs.declared.atom.SchemaAtom.{SchemaAtom}
-use Rattle.model_kit.proofs.Loops.{map_item}
+use Rattle.mre_base.proofs.Loops.{map_item}
 use Rattle.joint_models.specs.Renaming.{schema_atom_by}
 use Rattle.joint_models.proofs.renaming.rename_schema_atoms.Goals as goal
 

@@ -1,5 +1,5 @@
 use Rattle.std.proofs.Common.{ℕ, List}
-use Rattle.model_kit.proofs.Loops.{map_item}
+use Rattle.mre_base.proofs.Loops.{map_item}
 use Rattle.joint_models.specs.Renaming.{value_by}
 use Rattle.joint_models.proofs.renaming.rename_values.Goals as goal
 

@@ -16,7 +16,7 @@ invariant_of-result c =
     let functions = c.in_ok-joined-2.ensures.ok ∙ (λ i. joined_by (types i) (c.requires.planner_are.functions i) user.functions) ∙ joined_is planner user agree planner.functions user.functions facts.functions_kept in
     let actions = c.in_ok-joined-3.ensures.ok ∙ (λ i. joined_by (types i) (c.requires.planner_are.actions i) user.actions) ∙ joined_is planner user agree planner.actions user.actions facts.actions_kept in
     record {
-      sound = (λ i. is_vocabulary (c.in_ok-copy_typed.ensures.ok i) (c.in_ok-copy_typed-2.ensures.ok i) (predicates i) (functions i) (actions i)) ∙ joint_sound planner user agree;
+      sound = (λ i. is_vocabulary (c.in_ok-copied.ensures.ok i) (c.in_ok-copied-2.ensures.ok i) (predicates i) (functions i) (actions i)) ∙ joint_sound planner user agree;
     }
 
 pub returns : goal.returns
@@ -28,8 +28,8 @@ returns c =
     let facts = facts_of_words user in
     record {
       ok = record {
-        types = c.in_ok-copy_typed.ensures.ok;
-        objects = c.in_ok-copy_typed-2.ensures.ok;
+        types = c.in_ok-copied.ensures.ok;
+        objects = c.in_ok-copied-2.ensures.ok;
         predicates = c.in_ok-joined.ensures.ok ∙ (λ i. joined_by (types i) (c.requires.planner_are.predicates i) user.predicates) ∙ joined_is planner user agree planner.predicates user.predicates facts.predicates_kept;
         functions = c.in_ok-joined-2.ensures.ok ∙ (λ i. joined_by (types i) (c.requires.planner_are.functions i) user.functions) ∙ joined_is planner user agree planner.functions user.functions facts.functions_kept;
         actions = c.in_ok-joined-3.ensures.ok ∙ (λ i. joined_by (types i) (c.requires.planner_are.actions i) user.actions) ∙ joined_is planner user agree planner.actions user.actions facts.actions_kept;

@@ -1,7 +1,7 @@
 use Rattle.std.proofs.Common.{sym, ap, subst, ◌∙◌, ℕ, ◌+◌, List, arith, Some, None}
 use Rattle.std.specs.Prelude.{IsTrue}
 use Rattle.model_kit.specs.Vocabulary.{is_ground_atom}
-use Rattle.model_kit.proofs.Loops.{All_item}
+use Rattle.mre_base.proofs.Loops.{All_item}
 use Rattle.model_kit.proofs.MissingLemmas.{Known, still_known, earlier_known, all_there, first_there, at_end}
 use Rattle.model_kit.proofs.judging.first_missing.Goals as goal
 

@@ -1,6 +1,6 @@
 use Rattle.model_kit.specs.Runs.{instance}
 use Rattle.model_kit.specs.Judging.{ArePlaced}
-use Rattle.model_kit.proofs.Loops.{map_item, All_item}
+use Rattle.mre_base.proofs.Loops.{map_item, All_item}
 use Rattle.model_kit.proofs.state.instances.Goals as goal
 
 pub instance_of-requires : goal.instance_of-requires

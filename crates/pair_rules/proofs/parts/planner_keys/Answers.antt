@@ -1,6 +1,6 @@
 use Rattle.std.proofs.Common.{ap}
 use Rattle.pair_rules.specs.Made.{key_of}
-use Rattle.model_kit.proofs.Loops.{map_item}
+use Rattle.mre_base.proofs.Loops.{map_item}
 use Rattle.pair_rules.proofs.parts.planner_keys.Goals as goal
 
 pub loop-place-preserved : goal.loop-place-preserved

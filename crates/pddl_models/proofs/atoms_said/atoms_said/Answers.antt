@@ -1,7 +1,7 @@
 use Rattle.std.proofs.Common.{sym, ap, ◌∙◌, drop, ◌+◌}
 use Rattle.std.specs.Prelude.{slice_get}
 use Rattle.model_kit.specs.Same.{same_schema_atom}
-use Rattle.model_kit.proofs.Loops.{drop_item}
+use Rattle.mre_base.proofs.Loops.{drop_item}
 use Rattle.pddl_models.specs.Unrepeated.{schema_atom_key}
 use Rattle.pddl_names.specs.Listings.{terms_behind}
 use Rattle.pddl_vocabulary.specs.Values.{words_named, names_of}

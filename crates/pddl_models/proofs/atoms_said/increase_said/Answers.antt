@@ -1,6 +1,6 @@
 use Rattle.std.proofs.Common.{sym, ap, ◌∙◌, drop, ◌+◌, Some}
 use Rattle.model_kit.specs.declared.model.CostExpr.TheVariants.{Call}
-use Rattle.model_kit.proofs.Loops.{drop_item}
+use Rattle.mre_base.proofs.Loops.{drop_item}
 use Rattle.pddl_names.specs.Params.{is_action_name}
 use Rattle.pddl_vocabulary.specs.Values.{words_named, names_of}
 use Rattle.pddl_models.specs.Says.{increase_in, own_words}

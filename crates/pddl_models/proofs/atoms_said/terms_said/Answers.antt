@@ -1,5 +1,5 @@
 use Rattle.std.proofs.Common.{sym, ap, ◌∙◌}
-use Rattle.model_kit.proofs.Loops.{drop_item}
+use Rattle.mre_base.proofs.Loops.{drop_item}
 use Rattle.pddl_names.specs.Listings.{terms_behind}
 use Rattle.pddl_models.specs.Says.{term_said}
 use Rattle.pddl_models.proofs.SayingLemmas.{put_more, put_end, terms_more, terms_end}

@@ -1,5 +1,5 @@
 use Rattle.std.proofs.Common.{sym, ap, ◌∙◌, ◌++◌, map, drop, ◌+◌}
-use Rattle.model_kit.proofs.Loops.{drop_item}
+use Rattle.mre_base.proofs.Loops.{drop_item}
 use Rattle.pddl_vocabulary.specs.Values.{actions_in}
 use Rattle.pddl_models.specs.Says.{body_said}
 use Rattle.pddl_models.proofs.SayingLemmas.{put_more, actions_more, actions_same}

@@ -1,6 +1,6 @@
 use Rattle.std.proofs.Common.{sym, ap, ◌∙◌, drop, ◌+◌}
 use Rattle.std.specs.Prelude.{unwrap_or}
-use Rattle.model_kit.proofs.Loops.{drop_item}
+use Rattle.mre_base.proofs.Loops.{drop_item}
 use Rattle.pddl_form.specs.Numbers.{number}
 use Rattle.pddl_names.specs.Listings.{number_behind}
 use Rattle.pddl_models.proofs.SayingLemmas.{number_more, number_here}

@@ -1,7 +1,7 @@
 use Rattle.std.proofs.Common.{sym, ap, ◌∙◌, drop, ◌+◌}
 use Rattle.std.specs.Prelude.{slice_get}
 use Rattle.model_kit.specs.Features.{same_key}
-use Rattle.model_kit.proofs.Loops.{drop_item}
+use Rattle.mre_base.proofs.Loops.{drop_item}
 use Rattle.pddl_models.specs.Unrepeated.{value_key}
 use Rattle.pddl_names.specs.Listings.{terms_behind, number_behind, values_in}
 use Rattle.pddl_models.specs.Says.{value_said}

@@ -1,5 +1,5 @@
 use Rattle.std.proofs.Common.{sym, ap, ◌∙◌, drop, ◌+◌}
-use Rattle.model_kit.proofs.Loops.{drop_item}
+use Rattle.mre_base.proofs.Loops.{drop_item}
 use Rattle.pddl_models.specs.Says.{has_metric}
 use Rattle.pddl_models.proofs.SayingLemmas.{metric_here, metric_later}
 use Rattle.pddl_models.proofs.models.has_metric.Goals as goal

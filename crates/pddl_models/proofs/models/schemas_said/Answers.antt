@@ -1,4 +1,4 @@
-use Rattle.model_kit.proofs.Loops.{map_item}
+use Rattle.mre_base.proofs.Loops.{map_item}
 use Rattle.pddl_models.specs.Says.{schema_said}
 use Rattle.pddl_models.proofs.models.schemas_said.Goals as goal
 

@@ -3,7 +3,7 @@ use Rattle.std.proofs.lemmas.List.{take_all}
 use Rattle.pddl_names.specs.Forests.{AreUps}
 use Rattle.pddl_names.proofs.TreeLemmas.{ups_within}
 use Rattle.std.specs.Prelude.{unwrap_or}
-use Rattle.model_kit.proofs.Loops.{map_item}
+use Rattle.mre_base.proofs.Loops.{map_item}
 use Rattle.pddl_names.specs.TypeTrees.{parent_number}
 use Rattle.pddl_names.proofs.climbing.parent_numbers.Goals as goal
 

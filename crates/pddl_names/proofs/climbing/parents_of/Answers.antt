@@ -1,6 +1,6 @@
 use Rattle.std.proofs.Common.{◌++◌, ◌∷◌, [], map, take, sym, ap, ◌∙◌, append_assoc}
 use Rattle.std.proofs.lemmas.List.{map-append}
-use Rattle.model_kit.proofs.Loops.{take_item}
+use Rattle.mre_base.proofs.Loops.{take_item}
 use Rattle.pddl_names.specs.TypeTrees.{parent_entry}
 use Rattle.pddl_names.proofs.climbing.parents_of.Goals as goal
 

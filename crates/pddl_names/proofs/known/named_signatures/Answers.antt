@@ -1,4 +1,4 @@
-use Rattle.model_kit.proofs.Loops.{map_item}
+use Rattle.mre_base.proofs.Loops.{map_item}
 use Rattle.pddl_names.specs.Texts.{signature_declared}
 use Rattle.pddl_names.proofs.known.named_signatures.Goals as goal
 

@@ -1,5 +1,5 @@
 use Rattle.std.proofs.Common.{◌∙◌, sym, ap, ◌+◌, ◌<◌, drop, length}
-use Rattle.model_kit.proofs.Loops.{All_item}
+use Rattle.mre_base.proofs.Loops.{All_item}
 use Rattle.pddl_names.specs.Reading.{line_step, steps_from}
 use Rattle.pddl_text.specs.declared.plan.PlanLine.{PlanLine}
 use Rattle.pddl_names.proofs.WalkLemmas.{value_read, reading_stops, steps_step}

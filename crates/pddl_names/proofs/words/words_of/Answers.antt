@@ -1,4 +1,4 @@
-use Rattle.model_kit.proofs.Loops.{map_item}
+use Rattle.mre_base.proofs.Loops.{map_item}
 use Rattle.pddl_names.specs.Roles.{word_of}
 use Rattle.pddl_names.proofs.words.words_of.Goals as goal
 

@@ -28,7 +28,7 @@ invariant_of-result c =
     let types : TypeNumbers = record { numbers = c.in_ok-of.field-0; places = c.in_ok-type_places.field-0 } in
     let objects = c.in_ok-with_further.ensures.ok ∙ (λ i. domain.objects ++ filter (is_no_entry domain.objects) ((c.in_ok-listed.ensures.ok ∙ ap (firsts (same_by entry_name)) c.in_ok-objects_listed.ensures.ok) i)) in
     record {
-      sound = (λ i. is_vocabulary (c.in_ok-copy_all.ensures.ok i) (objects i) (c.in_ok-copy_all-2.ensures.ok i) (c.in_ok-copy_all-3.ensures.ok i) (c.in_ok-copy_all-4.ensures.ok i))
+      sound = (λ i. is_vocabulary (c.in_ok-copied.ensures.ok i) (objects i) (c.in_ok-copied-2.ensures.ok i) (c.in_ok-copied-3.ensures.ok i) (c.in_ok-copied-4.ensures.ok i))
           ∙ more_sound domain (type_number types) (numbers_are domain types c.in_ok-of.ensures.ok) c.args.said.now c.requires.formed;
     }
 
@@ -42,11 +42,11 @@ returns c =
     let objects = c.in_ok-with_further.ensures.ok ∙ (λ i. domain.objects ++ filter (is_no_entry domain.objects) (listed i)) in
     record {
       ok = record {
-        types = c.in_ok-copy_all.ensures.ok;
+        types = c.in_ok-copied.ensures.ok;
         objects = objects;
-        predicates = c.in_ok-copy_all-2.ensures.ok;
-        functions = c.in_ok-copy_all-3.ensures.ok;
-        actions = c.in_ok-copy_all-4.ensures.ok;
+        predicates = c.in_ok-copied-2.ensures.ok;
+        functions = c.in_ok-copied-3.ensures.ok;
+        actions = c.in_ok-copied-4.ensures.ok;
       };
       few_objects = few_more domain.objects c.in_ok-with_further.field-0 (names_of domain.types) c.args.said.now objects;
     }

@@ -1,6 +1,6 @@
 use Rattle.std.proofs.Common.{ℕ}
 use Rattle.mre_base.specs.declared.text.Text.{Text}
-use Rattle.model_kit.proofs.Loops.{map_item}
+use Rattle.mre_base.proofs.Loops.{map_item}
 use Rattle.pddl_vocabulary.specs.VocabularyTypes.{type_number}
 use Rattle.pddl_vocabulary.specs.VocabularyLists.{type_said}
 use Rattle.pddl_vocabulary.proofs.vocabulary_types.types_of.Goals as goal

@@ -1,4 +1,4 @@
-use Rattle.model_kit.proofs.Loops.{map_item}
+use Rattle.mre_base.proofs.Loops.{map_item}
 use Rattle.plain_program.specs.Numbered.{action_of}
 use Rattle.plain_program.proofs.numbering.name_plan.Goals as goal
 

@@ -1,5 +1,5 @@
 use Rattle.std.proofs.Common.{refl}
-use Rattle.model_kit.proofs.Loops.{map_item}
+use Rattle.mre_base.proofs.Loops.{map_item}
 use Rattle.plain_program.proofs.numbering.number_plan.Goals as goal
 
 pub loop-place-preserved : goal.loop-place-preserved

@@ -1,5 +1,5 @@
 use Rattle.model_kit.specs.Printed.{action_form}
-use Rattle.model_kit.proofs.Loops.{map_item}
+use Rattle.mre_base.proofs.Loops.{map_item}
 use Rattle.request_answers.proofs.judging.print_steps.Goals as goal
 
 pub loop-place-preserved : goal.loop-place-preserved

@@ -3,7 +3,7 @@ use Rattle.std.specs.Option.{option_map}
 use Rattle.std.specs.Prelude.{slice_get}
 use Rattle.std.specs.declared.alloc.Global.{Global}
 use Rattle.std.proofs.lemmas.Option.{slice_get-map}
-use Rattle.model_kit.proofs.Loops.{All_item}
+use Rattle.mre_base.proofs.Loops.{All_item}
 use Rattle.request_answers.proofs.texts.content.Goals as goal
 
 pub returns-clause-short : goal.returns-clause-short

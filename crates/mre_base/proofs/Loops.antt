@@ -1,6 +1,6 @@
--- One more item in a loop over a list.
-use Rattle.std.proofs.Common.{◌≡◌, ℕ, ◌+◌, Bool, ◌||◌, Some, List, [], ◌∷◌, ◌++◌, take, drop, map, sym, ap, ◌∙◌, subst}
-use Rattle.std.specs.Prelude.{slice_get, All}
+-- One more item in a loop over a list, and what stands in one.
+use Rattle.std.proofs.Common.{◌≡◌, ℕ, zero, suc, ◌+◌, Bool, ◌||◌, Some, List, [], ◌∷◌, ◌++◌, take, drop, map, refl, sym, ap, ◌∙◌, subst, arith, ◌⊎◌, inl, inr}
+use Rattle.std.specs.Prelude.{slice_get, All, Contains}
 use Rattle.std.specs.List.{list_any}
 use Rattle.std.proofs.lemmas.Option.{slice_get_within, get_or_from_slice_get}
 use Rattle.std.proofs.lemmas.List.{take_more, map-append, drop_more}
@@ -22,3 +22,14 @@ module _ {X : Type 0} (xs : List X) (i : ℕ) (x : X) (at : slice_get xs i ≡ S
 
   pub All_item : (P : X → Type 0) → All P xs → P x
   All_item P all = subst P (get_or_from_slice_get xs i x x at) (all i x (slice_get_within xs i x at))
+
+-- ---- what stands in a list
+pub contains_cases : {X : Type 0} (x : X) (xs : List X) (y : X) → Contains (x ∷ xs) y → (x ≡ y) ⊎ Contains xs y
+contains_cases x xs y (zero, lt, e) = inl e
+contains_cases x xs y (suc i, lt, e) = inr (i, omega arith, e)
+
+pub contains_here : {X : Type 0} (x : X) (xs : List X) → Contains (x ∷ xs) x
+contains_here x xs = (0, omega arith, refl)
+
+pub contains_later : {X : Type 0} (x : X) (xs : List X) (y : X) → Contains xs y → Contains (x ∷ xs) y
+contains_later x xs y (i, lt, e) = (suc i, omega arith, e)
