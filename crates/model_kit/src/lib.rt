@@ -22,4 +22,6 @@ pub use judging::{NamedJudgement, judge_names};
 pub use laws::{law_mce, law_mme, law_order};
 pub use model::{CostExpr, Model, Schema};
 pub use printing::{print_action, print_atom, print_cost, print_schema_atom, print_value};
+pub use state::{arguments, instance_of};
+pub use values::{FunctionTerm, value_at, value_table};
 pub use vocabulary::{Signature, Vocabulary};

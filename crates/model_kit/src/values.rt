@@ -1,11 +1,11 @@
-ghost use Rattle.std.specs.Prelude.{◌≡◌, ◌==◌, IsTrue, IfOk};
+ghost use Rattle.std.specs.Prelude.{ℕ, ◌≡◌, ◌==◌, IsTrue, IfOk, List as ListOf};
 ghost use Rattle.std.specs.Cmp.{partial_order_from_own_ties};
 ghost use Rattle.std.specs.Cmp.Rules.{comparing};
 ghost use Rattle.std.specs.Cmp.Lexicographic.{pointwise, slice_cmp};
 ghost use Rattle.std.specs.Ordering.{nat_cmp, on, then_cmp, eq_of_both, as_partial_cmp};
 ghost use Rattle.std.proofs.Common.{rules};
 ghost use Rattle.model_kit.specs.Vocabulary.{is_ground_action};
-ghost use Rattle.model_kit.specs.Places.{meaning};
+ghost use Rattle.model_kit.specs.Places.{meaning, value_of};
 ghost use Rattle.model_kit.specs.Runs.{cost_of};
 ghost use Rattle.model_kit.specs.Judging.{IsTableOf};
 
@@ -16,9 +16,9 @@ use std::alloc::Global;
 use std::cmp::Ordering;
 use std::collections::BTreeMap;
 
-// A function at objects.
+/// A function at objects.
 #[derive(Drop)]
-pub(crate) struct FunctionTerm {
+pub struct FunctionTerm {
     function: u32,
     objects: List<u32>,
 }
@@ -63,8 +63,8 @@ impl PartialOrd for FunctionTerm {
     }
 }
 
-// The values of a model. Where a term stood twice in the list, the first would count.
-pub(crate) fn value_table(
+/// The values of a model, for look-ups. Where a function stood twice at the same objects, the first value would count.
+pub fn value_table(
     alloc: Global,
     values: &List<(u32, List<u32>, u32)>,
 ) -> Result<BTreeMap<FunctionTerm, u32>, NoMemory>
@@ -80,6 +80,17 @@ pub(crate) fn value_table(
         table.insert(term, *number)?;
     }
     Ok(table)
+}
+
+/// The value of a function at objects, if it has one.
+pub fn value_at(
+    values: &BTreeMap<FunctionTerm, u32>,
+    function: u32,
+    objects: List<u32>,
+) -> Option<u32>
+    ensures { (list : ListOf (ℕ × ListOf ℕ × ℕ)) → IsTableOf list values.now → result ≡ value_of list function objects }
+{
+    values.get(&FunctionTerm { function, objects }).copied()
 }
 
 // The cost of an action in a model, if it has one.
@@ -99,11 +110,8 @@ pub(crate) fn price(
     match &model.schemas.item(action.schema as usize).cost {
         CostExpr::Number(number) => Ok(Some(*number)),
         CostExpr::Call { function, args } => {
-            let term = FunctionTerm {
-                function: *function,
-                objects: arguments(alloc, args, &action.objects)?,
-            };
-            Ok(values.get(&term).copied())
+            let objects = arguments(alloc, args, &action.objects)?;
+            Ok(value_at(values, *function, objects))
         }
     }
 }

@@ -19,14 +19,12 @@ returns-in-Number c =
     let unlisted = unknown_test _ c.args.model.now.unknown c.args.action.now.schema _ _ c.as_slice.ensures c.contains.ensures.value c.if-contains.false in
     record { ok = sym (number_cost c.args.model.now c.args.action.now c.requires.fits c.item.result.now c.item.ensures unlisted c.in-Number.number c.in-Number.is) }
 
-pub returns-in_ok-arguments-in-Call : goal.returns-in_ok-arguments-in-Call
-returns-in_ok-arguments-in-Call c =
+pub returns-in_ok-objects-in-Call : goal.returns-in_ok-objects-in-Call
+returns-in_ok-objects-in-Call c =
     let unlisted = unknown_test _ c.args.model.now.unknown c.args.action.now.schema _ _ c.as_slice.ensures c.contains.ensures.value c.if-contains.false in
     record {
       ok =
-          c.copied.ensures
-          ∙ c.get.ensures.value
-          ∙ c.requires.table _
-          ∙ ap (value_of c.args.model.now.values c.in-Call.function) c.in_ok-arguments-in-Call.ensures.ok
+          c.value_at.ensures c.args.model.now.values c.requires.table
+          ∙ ap (value_of c.args.model.now.values c.in-Call.function) c.in_ok-objects-in-Call.ensures.ok
           ∙ sym (call_cost c.args.model.now c.args.action.now c.requires.fits c.item.result.now c.item.ensures unlisted c.in-Call.function c.in-Call.args c.in-Call.is);
     }
