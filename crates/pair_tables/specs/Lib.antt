@@ -1,0 +1,5 @@
+pub mod Featured
+pub mod Made
+pub mod Numbers
+pub mod Pricing
+pub mod Schemes
