@@ -2,18 +2,10 @@ ghost use Rattle.std.specs.Prelude.{◌≡◌, [], IfSome};
 
 use crate::cases::Cases;
 use feature_diff::Pair;
+use ground_core::{Ground, GroundStop, ground};
 use model_kit::Model;
-use mre_base::NoMemory;
-use pair_rules::rules_of;
 use pddl_read::{read_domain, read_problem};
-use reach_kit::{Limits, ReachStop, Reached, reach};
 use std::alloc::Global;
-
-/// The limits of the program.
-const LIMITS: Limits = Limits {
-    atoms: 4096,
-    actions: 50000,
-};
 
 fn model_of(alloc: Global, domain: &str, problem: &str) -> Option<Model>
     ensures whole { IfSome result (λ model. model.unknown ≡ []) }
@@ -35,15 +27,12 @@ fn pair_of(alloc: Global, texts: &Cases) -> Option<Pair> {
     Pair::pair(alloc, planner, user).ok()
 }
 
-fn reached_in(alloc: Global, pair: &Pair) -> Option<Result<Reached, ReachStop>> {
+fn ground_of(alloc: Global, pair: &Pair) -> Option<Result<Ground, GroundStop>> {
     let differences = pair.differences(alloc).ok()?;
-    match rules_of(alloc, pair, &differences) {
-        Ok(world) => Some(reach(alloc, &world, LIMITS)),
-        Err(NoMemory) => None,
-    }
+    Some(ground(alloc, pair, &differences))
 }
 
-/// What may be reached in the pair of the texts, where they are one with at most 256 differences.
-pub fn reached(alloc: Global, texts: &Cases) -> Option<Result<Reached, ReachStop>> {
-    reached_in(alloc, &pair_of(alloc, texts)?)
+/// The table of the pair of the texts, where they are one with at most 256 differences.
+pub fn grounded(alloc: Global, texts: &Cases) -> Option<Result<Ground, GroundStop>> {
+    ground_of(alloc, &pair_of(alloc, texts)?)
 }

@@ -1,5 +1,5 @@
-use crate::reaching::reached;
-use crate::telling::{tell, tell_counts};
+use crate::grounding::grounded;
+use crate::telling::{Part, tell};
 use mre_base::NoMemory;
 use std::alloc::Global;
 
@@ -24,14 +24,16 @@ impl Cases {
 
     /// Takes one line, and gives what is to be printed.
     pub fn take(&mut self, alloc: Global, line: &str) -> Result<String, NoMemory> {
-        if line == "reach" {
-            return tell(alloc, &reached(alloc, self));
-        }
-        if line == "count" {
-            return tell_counts(alloc, &reached(alloc, self));
-        }
-        self.keep(alloc, line)?;
-        Ok(String::new(alloc))
+        let part = match line {
+            "table" => Part::Whole,
+            "names" => Part::Names,
+            "counts" => Part::Counts,
+            _ => {
+                self.keep(alloc, line)?;
+                return Ok(String::new(alloc));
+            }
+        };
+        tell(alloc, &grounded(alloc, self), part)
     }
 
     fn keep(&mut self, alloc: Global, line: &str) -> Result<(), NoMemory> {

@@ -1,11 +1,11 @@
-//! Reads the texts of pairs of models from standard input, a text a line, and prints what may be reached in them.
+//! Reads the texts of pairs of models from standard input, a text a line, and prints their tables.
 //!
-//! The lines `domain TEXT` and `problem TEXT` give the planner's model, `user-domain TEXT` and `user-problem TEXT` the user's. A line `reach`
-//! prints the atoms and the actions that may be reached, a line `count` how many there are; words and objects are told by their numbers.
+//! The lines `domain TEXT` and `problem TEXT` give the planner's model, `user-domain TEXT` and `user-problem TEXT` the user's. A line `counts`
+//! prints how many atoms and ground actions the pair's table lists, a line `names` their printed forms too, and a line `table` all of it.
 #![tactic(auto)]
 
 mod cases;
-mod reaching;
+mod grounding;
 mod telling;
 
 use cases::Cases;

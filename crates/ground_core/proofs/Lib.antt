@@ -1,0 +1,3 @@
+pub mod GroundLemmas
+pub mod NameLemmas
+pub mod OrderLemmas

@@ -1,0 +1,6 @@
+pub mod ActionForms
+pub mod Grounds
+pub mod Laws
+pub mod Names
+pub mod Ordered
+pub mod Stops
