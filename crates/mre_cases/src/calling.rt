@@ -1,10 +1,38 @@
+use crate::failing::{Failing, NONE_FAILS};
+use crate::telling::{ended, ended_and_asked};
 use mre_base::{List, NoMemory, Text};
-use mre_outside::{MemoryShelf, SoundSink};
-use mre_top::explain_top;
+use mre_outside::{MemoryShelf, MemorySink};
+use mre_top::{Outcome, explain_top};
 use std::alloc::Global;
 
-// A shelf with the five contents.
-fn shelf(alloc: Global, texts: [&str; 5]) -> Result<MemoryShelf, NoMemory> {
+/// What a call leaves: how it ended, what was asked of the shelf, and what was written on both sinks.
+pub struct Left {
+    pub outcome: Outcome,
+    pub files: MemoryShelf,
+    pub out: MemorySink,
+    pub faults: MemorySink,
+}
+
+impl Drop for Left {
+    fn drop(self) {
+        let Left {
+            outcome: _,
+            files: _,
+            out: _,
+            faults: _,
+        } = self;
+    }
+}
+
+// A list of one number.
+fn only(alloc: Global, number: u32) -> Result<List<u32>, NoMemory> {
+    let mut numbers = List::empty(alloc);
+    numbers.push(number)?;
+    Ok(numbers)
+}
+
+// A shelf with the five contents, of which the read with this number fails.
+fn shelf(alloc: Global, texts: [&str; 5], failing: u32) -> Result<MemoryShelf, NoMemory> {
     let [pd, pp, ud, up, plan] = texts;
     let mut files = List::empty(alloc);
     files.push((Text::of(alloc, "pd")?, Text::of(alloc, pd)?))?;
@@ -12,7 +40,12 @@ fn shelf(alloc: Global, texts: [&str; 5]) -> Result<MemoryShelf, NoMemory> {
     files.push((Text::of(alloc, "ud")?, Text::of(alloc, ud)?))?;
     files.push((Text::of(alloc, "up")?, Text::of(alloc, up)?))?;
     files.push((Text::of(alloc, "plan")?, Text::of(alloc, plan)?))?;
-    Ok(MemoryShelf::new(alloc, files, List::empty(alloc)))
+    Ok(MemoryShelf::new(alloc, files, only(alloc, failing)?))
+}
+
+// A sink, of which the write with this number fails.
+fn sink(alloc: Global, failing: u32) -> Result<MemorySink, NoMemory> {
+    Ok(MemorySink::new(alloc, only(alloc, failing)?))
 }
 
 // The words of a line.
@@ -24,34 +57,35 @@ fn words_of(alloc: Global, line: &str) -> Result<Vec<String>, NoMemory> {
     Ok(words)
 }
 
-/// How a call over these contents ends: its status and how many differences its answer tells, and then what it wrote on the sink of
-/// answers and on the sink of faults.
-pub fn call(alloc: Global, line: &str, texts: [&str; 5]) -> Result<String, NoMemory> {
+// What a call with the words of a line leaves, over these contents.
+fn left_by(
+    alloc: Global,
+    line: &str,
+    texts: [&str; 5],
+    failing: Failing,
+) -> Result<Left, NoMemory> {
     let words = words_of(alloc, line)?;
-    let mut files = shelf(alloc, texts)?;
-    let (mut out, mut faults) = (SoundSink::new(alloc), SoundSink::new(alloc));
+    let mut files = shelf(alloc, texts, failing.read)?;
+    let mut out = sink(alloc, failing.answer)?;
+    let mut faults = sink(alloc, failing.fault)?;
     let outcome = explain_top(alloc, words.as_slice(), &mut files, &mut out, &mut faults);
-    let status = outcome.status;
-    let mut text = match &outcome.answer {
-        Some(answer) => {
-            let told = answer.told.count();
-            format!(in alloc; "status {status}, told {told}\n")?
-        }
-        None => format!(in alloc; "status {status}\n")?,
-    };
-    push_lines(&mut text, "  ", out.bytes())?;
-    push_lines(&mut text, "! ", faults.bytes())?;
-    Ok(text)
+    Ok(Left {
+        outcome,
+        files,
+        out,
+        faults,
+    })
 }
 
-// Each line behind a mark.
-fn push_lines(text: &mut String, mark: &str, written: &[u8]) -> Result<(), NoMemory> {
-    let Ok(lines) = std::str::from_utf8(written) else {
-        text.push_str("bytes that are no text\n")?;
-        return Ok(());
-    };
-    for line in lines.lines() {
-        write!(text, "{mark}{line}\n")?;
+/// How a call over these contents ends, and where it is said what fails, also what it asks of the shelf.
+pub fn call(
+    alloc: Global,
+    line: &str,
+    texts: [&str; 5],
+    failing: Option<Failing>,
+) -> Result<String, NoMemory> {
+    match failing {
+        Some(numbers) => ended_and_asked(alloc, &left_by(alloc, line, texts, numbers)?),
+        None => ended(alloc, &left_by(alloc, line, texts, NONE_FAILS)?),
     }
-    Ok(())
 }

@@ -1,4 +1,6 @@
 use crate::calling::call;
+use crate::failing::{Failing, failing_of};
+use crate::repeating::push_line;
 use mre_base::NoMemory;
 use std::alloc::Global;
 
@@ -9,12 +11,13 @@ struct Named {
     text: String,
 }
 
-/// What the lines up to now have said: the texts, the one that isn't ended yet, and the words of the next call.
+/// What the lines up to now have said: the texts, the one that isn't ended yet, and of the next call its words and what fails in it.
 #[derive(Drop)]
 pub struct Cases {
     texts: Vec<Named>,
     open: Option<Named>,
     words: String,
+    failing: Option<Failing>,
 }
 
 impl Cases {
@@ -23,6 +26,7 @@ impl Cases {
             texts: Vec::new(alloc),
             open: None,
             words: String::new(alloc),
+            failing: None,
         }
     }
 
@@ -56,21 +60,38 @@ impl Cases {
             self.texts.push(Named { name, text })?;
             return Ok(());
         }
-        text.push_str(line)?;
-        text.push_str("\n")?;
+        push_line(&mut text, line)?;
         self.open = Some(Named { name, text });
         Ok(())
     }
 
-    // A line outside of texts: the words of a call, or what it is over.
+    // A line outside of texts: what a call is over, what fails in it, or its words.
     fn say(&mut self, alloc: Global, line: &str) -> Result<String, NoMemory> {
-        let Some(names) = line.strip_prefix("over ") else {
-            self.words = String::from_str(alloc, line)?;
-            return Ok(String::new(alloc));
-        };
-        let ended = call(alloc, self.words.as_str(), self.five(names))?;
+        if let Some(names) = line.strip_prefix("over ") {
+            let failing = self.failing.take();
+            return self.told(alloc, names, failing);
+        }
+        match failing_of(line) {
+            Some(failing) => self.failing = Some(failing),
+            None => self.words = String::from_str(alloc, line)?,
+        }
+        Ok(String::new(alloc))
+    }
+
+    // The call over the texts with these names, and how it ends.
+    fn told(
+        &self,
+        alloc: Global,
+        names: &str,
+        failing: Option<Failing>,
+    ) -> Result<String, NoMemory> {
         let words = self.words.as_str();
-        Ok(format!(in alloc; "{words} over {names}\n{ended}")?)
+        let ended = call(alloc, words, self.five(names), failing)?;
+        let Some(numbers) = failing else {
+            return Ok(format!(in alloc; "{words} over {names}\n{ended}")?);
+        };
+        let (read, answer, fault) = (numbers.read, numbers.answer, numbers.fault);
+        Ok(format!(in alloc; "{words} over {names} failing {read} {answer} {fault}\n{ended}")?)
     }
 
     // The texts with these names.

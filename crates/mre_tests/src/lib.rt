@@ -1,4 +1,4 @@
-//! How the calls of the program end: what they answer, print, refuse and ask for.
+//! Which words make a request, and how calls end where a file is past its limit.
 #![tactic(auto)]
 
 #[cfg(test)]

@@ -1,9 +1,3 @@
-mod counts;
-mod explanations;
-mod failing_calls;
 mod making;
-mod order;
 mod reads;
 mod requests;
-mod texts;
-mod unbuilt;
