@@ -1,5 +1,7 @@
--- What holds of the states of a bound proof before it is checked: they are of the task's width and in order, and its cuts are in range.
-use Rattle.std.specs.Prelude.{ℕ, ◌+◌, ◌^◌, ◌≡◌, ◌≤◌, ◌<◌, Bool, true, List, [], length, Some, slice_get, All}
+-- What holds of the states of a bound proof before it is checked: they are of the task's width and
+-- in order, and its cuts are in range.
+use Rattle.std.specs.Prelude.{ℕ, ◌+◌, ◌^◌, ◌≡◌, ◌≤◌, ◌<◌, Bool, true, List, [], length, Some}
+use Rattle.std.specs.Prelude.{slice_get, All}
 use Rattle.mre_base.specs.Before.{is_earlier_list}
 use Rattle.mre_base.specs.Sets.{BitSet, numbers_below}
 use Rattle.task_kit.specs.declared.cut.Cut.{Cut}
@@ -12,12 +14,14 @@ use Rattle.bound_cert.specs.Lines.{lines}
 
 -- the ascending list of the first set is before that of the second
 abbrev pub is_listed_before : BitSet → BitSet → Bool
-is_listed_before one two = is_earlier_list (numbers_below one.width one.members) (numbers_below two.width two.members)
+is_listed_before one two =
+    is_earlier_list (numbers_below one.width one.members) (numbers_below two.width two.members)
 
 -- each state is before each later one
 abbrev pub IsAscending : List BoundState → Type 0
 IsAscending states =
-    (place later : ℕ) (s t : BoundState) → slice_get states place ≡ Some s → slice_get states later ≡ Some t → place < later → is_listed_before s.state t.state ≡ true
+    (place later : ℕ) (s t : BoundState) → slice_get states place ≡ Some s
+    → slice_get states later ≡ Some t → place < later → is_listed_before s.state t.state ≡ true
 
 -- the cuts of a state
 abbrev pub cuts_of : How → List Cut
@@ -29,7 +33,8 @@ pub record IsInRange (atoms : ℕ) (cut : Cut) : Type 0 where
   pub weight : cut.weight ≤ most
   pub lacks : All (λ atom. atom < atoms) cut.lacks
 
--- the states have the task's width and ascend strictly, their cuts are in range, and there are fewer than 2^31 lines of states and cuts
+-- the states have the task's width and ascend strictly, their cuts are in range, and there are
+-- fewer than 2^31 lines of states and cuts
 pub record IsFormed (task : TaskMeaning) (states : List BoundState) : Type 0 where
   pub wide : All (λ s. s.state.width ≡ task.atoms + 1) states
   pub ascending : IsAscending states

@@ -1,5 +1,7 @@
--- The lines of a bound proof, the rules of each line, and the first fault: the first line that breaks a rule, with the first rule that it breaks.
-use Rattle.std.specs.Prelude.{ℕ, ◌+◌, ◌≡◌, ◌≤◌, ◌<◌, true, false, List, [], ◌∷◌, ◌++◌, length, All, ◌⊎◌}
+-- The lines of a bound proof, the rules of each line, and the first fault: the first line that
+-- breaks a rule, with the first rule that it breaks.
+use Rattle.std.specs.Prelude.{ℕ, ◌+◌, ◌≡◌, ◌≤◌, ◌<◌, true, false, List, [], ◌∷◌, ◌++◌, length, All}
+use Rattle.std.specs.Prelude.{◌⊎◌}
 use Rattle.std.specs.FinSet as set
 use Rattle.task_kit.specs.Tasks.{Numbers, TaskMeaning, price, applies, after}
 use Rattle.task_kit.specs.Bounds.{IsExpanded, IsKnownWithin, NumberedState}
@@ -13,7 +15,8 @@ use Rattle.bound_cert.specs.declared.proof.BoundRule.TheVariants as rules
 use Rattle.bound_cert.specs.declared.proof.BoundFault.{BoundFault}
 use Rattle.bound_cert.specs.Proven.{numbered, IsThere}
 
--- a line: the bound's own, that of an expanded state, that of a pruned state with its cuts, or that of a cut of a state after other cuts
+-- a line: the bound's own, that of an expanded state, that of a pruned state with its cuts, or that
+-- of a cut of a state after other cuts
 pub data Line : Type 0 where
   Own : Line
   OfExpanded : NumberedState → Line
@@ -23,12 +26,14 @@ pub data Line : Type 0 where
 -- the lines of a state's cuts, after some cuts of it
 abbrev pub cut_lines : Numbers → List CutMeaning → List CutMeaning → List Line
 cut_lines state before [] = []
-cut_lines state before (cut ∷ cuts) = OfCut state before cut ∷ cut_lines state (before ++ cut ∷ []) cuts
+cut_lines state before (cut ∷ cuts) =
+    OfCut state before cut ∷ cut_lines state (before ++ cut ∷ []) cuts
 
 -- the lines of a state, by how it was left
 abbrev pub lines_by : ℕ → NumberedState → How → List Line
 lines_by atoms state hows.Expanded = OfExpanded state ∷ []
-lines_by atoms state (hows.Pruned cuts) = OfPruned state (cuts_meaning atoms cuts) ∷ cut_lines state.state [] (cuts_meaning atoms cuts)
+lines_by atoms state (hows.Pruned cuts) =
+    OfPruned state (cuts_meaning atoms cuts) ∷ cut_lines state.state [] (cuts_meaning atoms cuts)
 
 -- the lines of a state of a task with so many atoms
 abbrev pub state_lines : ℕ → BoundState → List Line
@@ -43,11 +48,14 @@ lines atoms (s ∷ states) = state_lines atoms s ++ lines atoms states
 abbrev pub proof_lines : ℕ → List BoundState → List Line
 proof_lines atoms states = Own ∷ lines atoms states
 
--- the action applies in the state, and its successor costs less than k and isn't listed with its cost or a smaller number
-pub record LacksSuccessor (task : TaskMeaning) (k : ℕ) (states : List BoundState) (state : Numbers) (number action : ℕ) : Type 0 where
+-- the action applies in the state, and its successor costs less than k and isn't listed with its
+-- cost or a smaller number
+pub record LacksSuccessor (task : TaskMeaning) (k : ℕ) (states : List BoundState) (state : Numbers)
+    (number action : ℕ) : Type 0 where
   pub does : applies task action state ≡ true
   pub cheap : number + price task action < k
-  pub unknown : ¬ IsKnownWithin (IsThere states) (after task action state) (number + price task action)
+  pub unknown : ¬ IsKnownWithin (IsThere states) (after task action state)
+      (number + price task action)
 
 -- the line breaks the rule
 abbrev pub Breaks : TaskMeaning → ℕ → List BoundState → BoundRule → Line → Type 0
@@ -55,10 +63,13 @@ Breaks task k states rules.Start Own = (0 < k) × ¬ IsThere states task.start 0
 Breaks task k states rules.Below (OfExpanded s) = k ≤ s.number
 Breaks task k states rules.Below (OfPruned s cuts) = k ≤ s.number
 Breaks task k states rules.Goal (OfExpanded s) = set.is_subset task.goal s.state ≡ true
-Breaks task k states rules.Successor (OfExpanded s) = (action : ℕ) × LacksSuccessor task k states s.state s.number action
+Breaks task k states rules.Successor (OfExpanded s) =
+    (action : ℕ) × LacksSuccessor task k states s.state s.number action
 Breaks task k states rules.Sum (OfPruned s cuts) = s.number + weights cuts < k
-Breaks task k states rules.Cut (OfCut state before cut) = (set.is_subset state cut.among ≡ false) ⊎ (set.is_subset task.goal cut.among ≡ true)
-Breaks task k states rules.Charge (OfCut state before cut) = (action : ℕ) × (price task action < weight_of (counts task action) (before ++ cut ∷ []))
+Breaks task k states rules.Cut (OfCut state before cut) =
+    (set.is_subset state cut.among ≡ false) ⊎ (set.is_subset task.goal cut.among ≡ true)
+Breaks task k states rules.Charge (OfCut state before cut) =
+    (action : ℕ) × (price task action < weight_of (counts task action) (before ++ cut ∷ []))
 Breaks task k states rule line = ⊥
 
 -- the place of a rule in the order of rules
@@ -72,20 +83,24 @@ rank rules.Cut = 5
 rank rules.Charge = 6
 
 -- the line breaks the rule, and none before it
-pub record BreaksFirst (task : TaskMeaning) (k : ℕ) (states : List BoundState) (line : Line) (rule : BoundRule) : Type 0 where
+pub record BreaksFirst (task : TaskMeaning) (k : ℕ) (states : List BoundState) (line : Line)
+    (rule : BoundRule) : Type 0 where
   pub breaks : Breaks task k states rule line
   pub first : (earlier : BoundRule) → rank earlier < rank rule → ¬ Breaks task k states earlier line
 
 -- the line keeps every rule
 abbrev pub Keeps : TaskMeaning → ℕ → List BoundState → Line → Type 0
 Keeps task k states Own = 0 < k → IsThere states task.start 0
-Keeps task k states (OfExpanded s) = (s.number < k) × IsExpanded task k (IsThere states) s.state s.number
+Keeps task k states (OfExpanded s) =
+    (s.number < k) × IsExpanded task k (IsThere states) s.state s.number
 Keeps task k states (OfPruned s cuts) = (s.number < k) × (k ≤ s.number + weights cuts)
 Keeps task k states (OfCut state before cut) =
-    (set.is_subset state cut.among ≡ true) × (set.is_subset task.goal cut.among ≡ false) × ((action : ℕ) → weight_of (counts task action) (before ++ cut ∷ []) ≤ price task action)
+    (set.is_subset state cut.among ≡ true) × (set.is_subset task.goal cut.among ≡ false)
+    × ((action : ℕ) → weight_of (counts task action) (before ++ cut ∷ []) ≤ price task action)
 
 -- the fault is at the first of the lines that breaks a rule, where the lines count from a number on
-pub record IsFirstFault (task : TaskMeaning) (k : ℕ) (states : List BoundState) (lines : List Line) (from : ℕ) (fault : BoundFault) : Type 0 where
+pub record IsFirstFault (task : TaskMeaning) (k : ℕ) (states : List BoundState) (lines : List Line)
+    (from : ℕ) (fault : BoundFault) : Type 0 where
   pub before : List Line
   pub line : Line
   pub later : List Line

@@ -21,6 +21,8 @@ abbrev pub charge_by : TaskMeaning → CutMeaning → ℕ → ℕ
 charge_by task cut action = cond (counts task action cut) cut.weight 0
 
 -- each action was charged by the cuts what is noted for it, and no more than it costs
-pub record AreCharged (task : TaskMeaning) (cuts : List CutMeaning) (charged : List ℕ) : Type 0 where
-  pub noted : (action : ℕ) → action < length task.actions → slice_index charged action ≡ weight_of (counts task action) cuts
+pub record AreCharged (task : TaskMeaning) (cuts : List CutMeaning)
+    (charged : List ℕ) : Type 0 where
+  pub noted : (action : ℕ) → action < length task.actions
+      → slice_index charged action ≡ weight_of (counts task action) cuts
   pub within : (action : ℕ) → weight_of (counts task action) cuts ≤ price task action

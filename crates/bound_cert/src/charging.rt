@@ -1,5 +1,6 @@
 //! What the cuts of a state charge each action.
-ghost use Rattle.std.specs.Prelude.{ℕ, ◌≡◌, ◌+◌, ◌^◌, ◌≤◌, ◌<◌, false, [], length, slice_index, IsTrue, IfSome, IfNone};
+ghost use Rattle.std.specs.Prelude.{ℕ, ◌≡◌, ◌+◌, ◌^◌, ◌≤◌, ◌<◌, false, [], length, slice_index};
+ghost use Rattle.std.specs.Prelude.{IsTrue, IfSome, IfNone};
 ghost use Rattle.task_kit.specs.Cuts.{most};
 ghost use Rattle.task_kit.specs.Tasks.{price};
 ghost use Rattle.bound_cert.specs.Rooms.{charge_by, AreCharged};

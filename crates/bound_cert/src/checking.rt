@@ -1,7 +1,9 @@
-ghost use Rattle.std.specs.Prelude.{ℕ, ◌≡◌, ◌+◌, ◌^◌, ◌≤◌, ◌<◌, ◌↔◌, false, length, All, IsTrue, IsOk, IfErr, IfSome, IfNone};
+ghost use Rattle.std.specs.Prelude.{ℕ, ◌≡◌, ◌+◌, ◌^◌, ◌≤◌, ◌<◌, ◌↔◌, false, length, All, IsTrue};
+ghost use Rattle.std.specs.Prelude.{IsOk, IfErr, IfSome, IfNone};
 ghost use Rattle.task_kit.specs.Bounds.{HasNoCheaper};
 ghost use Rattle.bound_cert.specs.Formed.{IsInRange, cuts_of, IsAscending, IsFormed};
-ghost use Rattle.bound_cert.specs.Lines.{state_lines, lines, proof_lines, Keeps, IsFirstFault, IsFaultOf};
+ghost use Rattle.bound_cert.specs.Lines.{state_lines, lines, proof_lines, Keeps, IsFirstFault};
+ghost use Rattle.bound_cert.specs.Lines.{IsFaultOf};
 ghost use Rattle.bound_cert.specs.Proven.{IsThere, IsBoundProof};
 ghost use Rattle.bound_cert.specs.Rooms.{IsScratchOf};
 

@@ -1,5 +1,6 @@
 //! Cuts of pruned states.
-ghost use Rattle.std.specs.Prelude.{ℕ, ◌≡◌, ◌+◌, ◌^◌, ◌≤◌, ◌<◌, [], ◌∷◌, ◌++◌, List, length, slice_index, All, IsTrue, IfSome, IfNone};
+ghost use Rattle.std.specs.Prelude.{ℕ, ◌≡◌, ◌+◌, ◌^◌, ◌≤◌, ◌<◌, [], ◌∷◌, ◌++◌, List, length};
+ghost use Rattle.std.specs.Prelude.{slice_index, All, IsTrue, IfSome, IfNone};
 ghost use Rattle.std.specs.FinSet as set;
 ghost use Rattle.task_kit.specs.Cuts.{CutMeaning};
 ghost use Rattle.task_kit.specs.Kept.{cut_meaning, cuts_meaning};
@@ -19,7 +20,10 @@ use task_kit::{Cut, Cuts, TaskView};
 fn make_set(all: &Bits, lacks: &[u32], among: &mut Bits)
     requires width { among.old.width ≡ all.now.width }
     requires lacks { All (λ atom. atom < all.now.width) lacks.now }
-    ensures { among.new ≡ record all.now { members = set.difference all.now.members (set_of lacks.now) } }
+    ensures { among.new ≡ record all.now {
+      members = set.difference all.now.members
+          (set_of lacks.now);
+    } }
 {
     among.copy_from(all);
     for &atom in lacks {
@@ -78,9 +82,11 @@ pub fn fault_in_cuts<T: TaskView>(
     requires in_range { All (IsInRange (T.seen task.now).atoms) cuts.now }
     requires scratch { IsScratchOf (T.seen task.now) scratch.old }
     requires few { line + length cuts.now < 2 ^ 32 }
-    ensures kept { IfNone result ((k : ℕ) (states : List BoundState) → All (Keeps (T.seen task.now) k states)
+    ensures kept { IfNone result ((k : ℕ) (states : List BoundState)
+        → All (Keeps (T.seen task.now) k states)
         (cut_lines state.now.members [] (cuts_meaning (T.seen task.now).atoms cuts.now))) }
-    ensures broken { IfSome result (λ fault. (k : ℕ) (states : List BoundState) → IsFirstFault (T.seen task.now) k states
+    ensures broken { IfSome result (λ fault. (k : ℕ) (states : List BoundState)
+        → IsFirstFault (T.seen task.now) k states
         (cut_lines state.now.members [] (cuts_meaning (T.seen task.now).atoms cuts.now)) line fault) }
     ensures scratch { IsScratchOf (T.seen task.now) scratch.new }
 {

@@ -1,5 +1,6 @@
 //! Expanded states: each successor below the bound is listed.
-ghost use Rattle.std.specs.Prelude.{ℕ, ◌≡◌, ◌+◌, ◌^◌, ◌≤◌, ◌<◌, ◌⊎◌, true, false, length, All, IsTrue, IfSome, IfNone};
+ghost use Rattle.std.specs.Prelude.{ℕ, ◌≡◌, ◌+◌, ◌^◌, ◌≤◌, ◌<◌, ◌⊎◌, true, false, length, All};
+ghost use Rattle.std.specs.Prelude.{IsTrue, IfSome, IfNone};
 ghost use Rattle.task_kit.specs.Bounds.{IsKnownWithin};
 ghost use Rattle.task_kit.specs.Tasks.{price, applies, after};
 ghost use Rattle.bound_cert.specs.Formed.{IsAscending};

@@ -1,4 +1,5 @@
-//! Bound proofs: that no valid list of a task costs less than a bound, as listed states that anyone can check, and their checker.
+//! Bound proofs: that no valid list of a task costs less than a bound, as listed states that anyone
+//! can check, and their checker.
 #![tactic(auto)]
 
 mod charging;

@@ -1,5 +1,6 @@
 //! Looking for a state among those of a bound proof, which ascend.
-ghost use Rattle.std.specs.Prelude.{ℕ, ◌≡◌, ◌≤◌, ◌<◌, ◌↔◌, true, false, Some, length, slice_get, All, IsTrue};
+ghost use Rattle.std.specs.Prelude.{ℕ, ◌≡◌, ◌≤◌, ◌<◌, ◌↔◌, true, false, Some, length, slice_get};
+ghost use Rattle.std.specs.Prelude.{All, IsTrue};
 ghost use Rattle.task_kit.specs.Bounds.{IsKnownWithin};
 ghost use Rattle.bound_cert.specs.declared.proof.BoundState.{BoundState};
 ghost use Rattle.bound_cert.specs.Formed.{is_listed_before, IsAscending};

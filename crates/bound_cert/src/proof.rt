@@ -10,7 +10,8 @@ pub enum How {
     Pruned(Cuts),
 }
 
-/// A state with a number, and how it was left: every list from it to the goal costs so much that it comes with the number to at least
+/// A state with a number, and how it was left: every list from it to the goal costs so much that it
+/// comes with the number to at least
 /// the bound.
 #[derive(Debug)]
 pub struct BoundState {
@@ -29,7 +30,8 @@ impl Drop for BoundState {
     }
 }
 
-/// A proof that no valid list of a task costs less than `k`. The states ascend strictly by their lists of atoms.
+/// A proof that no valid list of a task costs less than `k`. The states ascend strictly by their
+/// lists of atoms.
 #[derive(Debug, Drop)]
 pub struct BoundProof {
     pub k: u64,
@@ -45,7 +47,8 @@ pub enum BoundRule {
     Below,
     /// An expanded state lacks a goal atom.
     Goal,
-    /// Each successor of an expanded state costs at least `k`, or is listed with its cost or a smaller number.
+    /// Each successor of an expanded state costs at least `k`, or is listed with its cost or a
+    /// smaller number.
     Successor,
     /// The number of a pruned state and the weights of its cuts come to at least `k`.
     Sum,
@@ -55,7 +58,8 @@ pub enum BoundRule {
     Charge,
 }
 
-/// The first line of a bound proof that breaks a rule, and the first rule that it breaks. The bound has line 1, each state a line, and
+/// The first line of a bound proof that breaks a rule, and the first rule that it breaks. The bound
+/// has line 1, each state a line, and
 /// each cut of a pruned state a line after it.
 #[derive(Clone, Copy, Debug, PartialEq, Eq)]
 pub struct BoundFault {

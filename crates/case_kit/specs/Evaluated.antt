@@ -1,5 +1,7 @@
--- The two tasks of a cube without its members: each condition by what the cube tells and leaves, and where neither is so, by the side that a task takes.
-use Rattle.std.specs.Prelude.{ℕ, Bool, true, not, if◌then◌else◌, List, map, filter, Option, None, Some, min, max}
+-- The two tasks of a cube without its members: each condition by what the cube tells and leaves,
+-- and where neither is so, by the side that a task takes.
+use Rattle.std.specs.Prelude.{ℕ, Bool, true, not, if◌then◌else◌, List, map, filter, Option, None}
+use Rattle.std.specs.Prelude.{Some, min, max}
 use Rattle.std.specs.FinSet as set
 use Rattle.cube_kit.specs.Cubes.{CubeMeaning}
 use Rattle.task_kit.specs.declared.task.Task.{Task}
@@ -62,23 +64,29 @@ best_of Restrictive one other = greatest_of one other
 abbrev pub value_by : Way → CubeMeaning → CaseValue → Option ℕ
 value_by way cube (values.One value) = value
 value_by way cube (values.Two place with without) =
-    if set.contains cube.told place then with else if set.contains cube.left place then without else best_of way with without
+    if set.contains cube.told place then with else if set.contains cube.left place then without
+    else best_of way with without
 
 abbrev pub cost_by : Way → CubeMeaning → CaseCost → Option ℕ
 cost_by way cube (costs.One value) = value_by way cube value
 cost_by way cube (costs.Two place with without) =
-    if set.contains cube.told place then value_by way cube with else if set.contains cube.left place then value_by way cube without else best_of way (value_by way cube with) (value_by way cube without)
+    if set.contains cube.told place then value_by way cube with else if set.contains cube.left place
+    then value_by way cube without else best_of way (value_by way cube with)
+    (value_by way cube without)
 
 abbrev pub known_cost_by : Way → CubeMeaning → CaseAction → Option ℕ
-known_cost_by way cube action = if counts way cube action.known then cost_by way cube action.cost else None
+known_cost_by way cube action =
+    if counts way cube action.known then cost_by way cube action.cost else None
 
 -- the atoms of the cases whose conditions pass a test
 abbrev pub atoms_where : (When → Bool) → List Case → List ℕ
 atoms_where test cases = map (λ case. case.atom) (filter (λ case. test case.when) cases)
 
--- an action and a task, given which conditions count for what helps a list to be valid (initial facts and adds), which count for what
+-- an action and a task, given which conditions count for what helps a list to be valid (initial
+-- facts and adds), which count for what
 -- hinders it (goals, preconditions and deletes), and what the actions cost
-abbrev pub action_where : (When → Bool) → (When → Bool) → (CaseAction → Option ℕ) → CaseAction → ActionMeaning
+abbrev pub action_where : (When → Bool) → (When → Bool) → (CaseAction → Option ℕ) → CaseAction
+    → ActionMeaning
 action_where helps hinders cost action = record {
   pre = set_of (atoms_where hinders action.pre);
   add = set_of (atoms_where helps action.add);
@@ -86,7 +94,8 @@ action_where helps hinders cost action = record {
   cost = cost action;
 }
 
-abbrev pub task_where : (When → Bool) → (When → Bool) → (CaseAction → Option ℕ) → CaseTable → TaskMeaning
+abbrev pub task_where : (When → Bool) → (When → Bool) → (CaseAction → Option ℕ) → CaseTable
+    → TaskMeaning
 task_where helps hinders cost table = record {
   atoms = table.atoms;
   start = set_of (atoms_where helps table.start);
@@ -96,7 +105,8 @@ task_where helps hinders cost table = record {
 
 -- the two tasks
 abbrev pub relaxed : Way → CaseTable → CubeMeaning → TaskMeaning
-relaxed way table cube = task_where (counts way cube) (counts (opposite way) cube) (known_cost_by way cube) table
+relaxed way table cube =
+    task_where (counts way cube) (counts (opposite way) cube) (known_cost_by way cube) table
 
 abbrev pub permissive : CaseTable → CubeMeaning → TaskMeaning
 permissive table cube = relaxed Permissive table cube

@@ -1,4 +1,5 @@
--- The members of a case table. After a set of differences is told and the others are left, each condition holds or not, and each cost has its value: that is a task on numbers.
+-- The members of a case table. After a set of differences is told and the others are left, each
+-- condition holds or not, and each cost has its value: that is a task on numbers.
 use Rattle.std.specs.Prelude.{ℕ, Bool, true, not, if◌then◌else◌, List, map, filter, Option, None}
 use Rattle.std.specs.FinSet as set
 use Rattle.cube_kit.specs.Cubes.{Told}
@@ -26,7 +27,8 @@ value_after told (values.Two place with without) = if set.contains told place th
 
 abbrev pub cost_after : Told → CaseCost → Option ℕ
 cost_after told (costs.One value) = value_after told value
-cost_after told (costs.Two place with without) = if set.contains told place then value_after told with else value_after told without
+cost_after told (costs.Two place with without) =
+    if set.contains told place then value_after told with else value_after told without
 
 abbrev pub cost_if_known : Told → When → CaseCost → Option ℕ
 cost_if_known told known cost = if holds told known then cost_after told cost else None
@@ -36,7 +38,8 @@ known_cost_after told action = cost_if_known told action.known action.cost
 
 -- the atoms of the cases that hold
 abbrev pub atoms_after : Told → List Case → Numbers
-atoms_after told cases = set_of (map (λ case. case.atom) (filter (λ case. holds told case.when) cases))
+atoms_after told cases =
+    set_of (map (λ case. case.atom) (filter (λ case. holds told case.when) cases))
 
 -- a ground action, and the whole task
 abbrev pub action_after : Told → CaseAction → ActionMeaning

@@ -17,7 +17,8 @@ stands_in_value (values.Two place told left) k = place == k
 
 abbrev pub stands_in_cost : CaseCost → ℕ → Bool
 stands_in_cost (costs.One value) k = stands_in_value value k
-stands_in_cost (costs.Two place told left) k = place == k || (stands_in_value told k || stands_in_value left k)
+stands_in_cost (costs.Two place told left) k =
+    place == k || (stands_in_value told k || stands_in_value left k)
 
 -- some number stands in the value, in the cost
 abbrev pub has_value : CaseValue → Bool
@@ -41,4 +42,6 @@ stands_among cases k = list_any (λ case. speaks_of case.when k) cases
 -- the difference has a part in the action: in a case, in whether it is known, or in its cost
 abbrev pub touches : CaseAction → ℕ → Bool
 touches action k =
-    stands_among action.pre k || (stands_among action.add k || (stands_among action.del k || (speaks_of action.known k || stands_in_cost action.cost k)))
+    stands_among action.pre k || (stands_among action.add k
+    || (stands_among action.del k || (speaks_of action.known k
+    || stands_in_cost action.cost k)))

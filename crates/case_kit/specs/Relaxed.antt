@@ -1,4 +1,6 @@
--- The two tasks of a cube, by its members. The permissive task has what helps a list to be valid in some member and what hinders it in every member, at the least costs; the restrictive task is the reverse.
+-- The two tasks of a cube, by its members. The permissive task has what helps a list to be valid in
+-- some member and what hinders it in every member, at the least costs; the restrictive task is the
+-- reverse.
 use Rattle.std.specs.Prelude.{ℕ, ◌≡◌, ◌≤◌, ◌↔◌, true, Option, None, Some, length}
 use Rattle.std.specs.FinSet as set
 use Rattle.cube_kit.specs.Cubes.{Told, CubeMeaning, is_member}
@@ -15,10 +17,14 @@ EveryMember cube IsSo = (told : Told) → is_member cube told ≡ true → IsSo 
 
 -- the numbers are those that some member has, those that each member has
 abbrev pub AreOfSome : CubeMeaning → (Told → Numbers) → Numbers → Type 0
-AreOfSome cube of_member numbers = (k : ℕ) → (set.contains numbers k ≡ true) ↔ SomeMember cube (λ told. set.contains (of_member told) k ≡ true)
+AreOfSome cube of_member numbers =
+    (k : ℕ) → (set.contains numbers k ≡ true)
+    ↔ SomeMember cube (λ told. set.contains (of_member told) k ≡ true)
 
 abbrev pub AreOfEvery : CubeMeaning → (Told → Numbers) → Numbers → Type 0
-AreOfEvery cube of_member numbers = (k : ℕ) → (set.contains numbers k ≡ true) ↔ EveryMember cube (λ told. set.contains (of_member told) k ≡ true)
+AreOfEvery cube of_member numbers =
+    (k : ℕ) → (set.contains numbers k ≡ true)
+    ↔ EveryMember cube (λ told. set.contains (of_member told) k ≡ true)
 
 -- the first cost is no greater than the second; an absent cost is above every number
 abbrev pub IsNoDearer : Option ℕ → Option ℕ → Type 0
@@ -26,25 +32,30 @@ IsNoDearer one None = Unit {0}
 IsNoDearer None (Some other) = ⊥
 IsNoDearer (Some one) (Some other) = one ≤ other
 
--- some member has this cost, and none has a smaller one; so it is absent only where each member has none
-pub record IsLeastCost (cube : CubeMeaning) (of_member : Told → Option ℕ) (cost : Option ℕ) : Type 0 where
+-- some member has this cost, and none has a smaller one; so it is absent only where each member has
+-- none
+pub record IsLeastCost (cube : CubeMeaning) (of_member : Told → Option ℕ)
+    (cost : Option ℕ) : Type 0 where
   pub some : SomeMember cube (λ told. of_member told ≡ cost)
   pub least : EveryMember cube (λ told. IsNoDearer cost (of_member told))
 
 -- some member has this cost, and none has a greater one; so it is absent where some member has none
-pub record IsGreatestCost (cube : CubeMeaning) (of_member : Told → Option ℕ) (cost : Option ℕ) : Type 0 where
+pub record IsGreatestCost (cube : CubeMeaning) (of_member : Told → Option ℕ)
+    (cost : Option ℕ) : Type 0 where
   pub some : SomeMember cube (λ told. of_member told ≡ cost)
   pub greatest : EveryMember cube (λ told. IsNoDearer (of_member told) cost)
 
 -- an action of the permissive task, given the action of each member
-pub record IsPermissiveAction (cube : CubeMeaning) (of_member : Told → ActionMeaning) (action : ActionMeaning) : Type 0 where
+pub record IsPermissiveAction (cube : CubeMeaning) (of_member : Told → ActionMeaning)
+    (action : ActionMeaning) : Type 0 where
   pub pre : AreOfEvery cube (λ told. (of_member told).pre) action.pre
   pub add : AreOfSome cube (λ told. (of_member told).add) action.add
   pub del : AreOfEvery cube (λ told. (of_member told).del) action.del
   pub cost : IsLeastCost cube (λ told. (of_member told).cost) action.cost
 
 -- an action of the restrictive task
-pub record IsRestrictiveAction (cube : CubeMeaning) (of_member : Told → ActionMeaning) (action : ActionMeaning) : Type 0 where
+pub record IsRestrictiveAction (cube : CubeMeaning) (of_member : Told → ActionMeaning)
+    (action : ActionMeaning) : Type 0 where
   pub pre : AreOfSome cube (λ told. (of_member told).pre) action.pre
   pub add : AreOfEvery cube (λ told. (of_member told).add) action.add
   pub del : AreOfSome cube (λ told. (of_member told).del) action.del
@@ -56,12 +67,15 @@ pub record IsPermissive (table : CaseTable) (cube : CubeMeaning) (task : TaskMea
   pub start : AreOfSome cube (λ told. (member table told).start) task.start
   pub goal : AreOfEvery cube (λ told. (member table told).goal) task.goal
   pub actions : length task.actions ≡ length table.actions
-  pub each : (action : ℕ) → IsPermissiveAction cube (λ told. action_at (member table told) action) (action_at task action)
+  pub each : (action : ℕ) → IsPermissiveAction cube (λ told. action_at (member table told)
+      action) (action_at task action)
 
 -- the task is the restrictive task of the cube
-pub record IsRestrictive (table : CaseTable) (cube : CubeMeaning) (task : TaskMeaning) : Type 0 where
+pub record IsRestrictive (table : CaseTable) (cube : CubeMeaning)
+    (task : TaskMeaning) : Type 0 where
   pub atoms : task.atoms ≡ table.atoms
   pub start : AreOfEvery cube (λ told. (member table told).start) task.start
   pub goal : AreOfSome cube (λ told. (member table told).goal) task.goal
   pub actions : length task.actions ≡ length table.actions
-  pub each : (action : ℕ) → IsRestrictiveAction cube (λ told. action_at (member table told) action) (action_at task action)
+  pub each : (action : ℕ) → IsRestrictiveAction cube (λ told. action_at (member table told)
+      action) (action_at task action)

@@ -1,5 +1,7 @@
--- What a case table may hold. Differences count from 1 to d and atoms from 0, and the number of atoms stands for what can never be true.
-use Rattle.std.specs.Prelude.{ℕ, ◌+◌, ◌≡◌, ◌≤◌, ◌<◌, Bool, true, ◌&&◌, not, List, length, All, Contains, ◌⊎◌}
+-- What a case table may hold. Differences count from 1 to d and atoms from 0, and the number of
+-- atoms stands for what can never be true.
+use Rattle.std.specs.Prelude.{ℕ, ◌+◌, ◌≡◌, ◌≤◌, ◌<◌, Bool, true, ◌&&◌, not, List, length, All}
+use Rattle.std.specs.Prelude.{Contains, ◌⊎◌}
 use Rattle.cube_kit.specs.Cubes.{is_listed}
 use Rattle.case_kit.specs.declared.cases.When.{When}
 use Rattle.case_kit.specs.declared.cases.When.TheVariants.{Always, IfTold, IfLeft}
@@ -23,12 +25,14 @@ is_value_listed d (values.Two place told left) = is_listed d place
 
 abbrev pub is_cost_listed : ℕ → CaseCost → Bool
 is_cost_listed d (costs.One value) = is_value_listed d value
-is_cost_listed d (costs.Two place told left) = is_listed d place && (is_value_listed d told && is_value_listed d left)
+is_cost_listed d (costs.Two place told left) =
+    is_listed d place && (is_value_listed d told && is_value_listed d left)
 
 -- the place of a cost isn't the place of one of its values
 abbrev pub is_apart : CaseCost → Bool
 is_apart (costs.One value) = true
-is_apart (costs.Two place told left) = not (stands_in_value told place) && not (stands_in_value left place)
+is_apart (costs.Two place told left) =
+    not (stands_in_value told place) && not (stands_in_value left place)
 
 -- the difference of a condition stands nowhere in the cost
 abbrev pub is_beside : CaseCost → When → Bool
@@ -41,7 +45,8 @@ pub record IsCase (d bound : ℕ) (case : Case) : Type 0 where
   pub below : case.atom < bound
   pub listed : is_listed_in d case.when ≡ true
 
--- an action's atoms and differences are in their ranges, and no difference stands twice in what decides its cost
+-- an action's atoms and differences are in their ranges, and no difference stands twice in what
+-- decides its cost
 pub record IsCaseAction (d atoms : ℕ) (action : CaseAction) : Type 0 where
   pub pre : All (IsCase d (atoms + 1)) action.pre
   pub add : All (IsCase d atoms) action.add
@@ -56,13 +61,18 @@ abbrev pub StandsAmong : List Case → When → Type 0
 StandsAmong cases when = (case : Case) × Contains cases case × (case.when ≡ when)
 
 abbrev pub StandsIn : CaseAction → When → Type 0
-StandsIn action when = StandsAmong action.pre when ⊎ StandsAmong action.add when ⊎ StandsAmong action.del when ⊎ (action.known ≡ when)
+StandsIn action when =
+    StandsAmong action.pre when ⊎ StandsAmong action.add when ⊎ StandsAmong action.del when
+    ⊎ (action.known ≡ when)
 
 abbrev pub Stands : List Case → List Case → List CaseAction → When → Type 0
-Stands start goal actions when = StandsAmong start when ⊎ StandsAmong goal when ⊎ ((action : CaseAction) × Contains actions action × StandsIn action when)
+Stands start goal actions when =
+    StandsAmong start when ⊎ StandsAmong goal when
+    ⊎ ((action : CaseAction) × Contains actions action × StandsIn action when)
 
 -- the facts of each table
-pub record IsCaseTable (d atoms : ℕ) (start goal : List Case) (actions : List CaseAction) : Type 0 where
+pub record IsCaseTable (d atoms : ℕ) (start goal : List Case)
+    (actions : List CaseAction) : Type 0 where
   pub few_differences : d ≤ 256
   pub few_atoms : atoms ≤ 4096
   pub few_actions : length actions ≤ 50000
@@ -70,4 +80,5 @@ pub record IsCaseTable (d atoms : ℕ) (start goal : List Case) (actions : List 
   pub goals : All (IsCase d (atoms + 1)) goal
   pub each : All (IsCaseAction d atoms) actions
   -- no difference stands both in a condition on what is told and in one on what is left
-  pub one_way : (place : ℕ) → Stands start goal actions (IfTold place) → Stands start goal actions (IfLeft place) → ⊥
+  pub one_way : (place : ℕ) → Stands start goal actions (IfTold place)
+      → Stands start goal actions (IfLeft place) → ⊥

@@ -1,4 +1,5 @@
--- What a list of actions costs over a cube: the sum of the least costs, and the sum of the greatest ones. A sum with an absent part is absent, and so above every number.
+-- What a list of actions costs over a cube: the sum of the least costs, and the sum of the greatest
+-- ones. A sum with an absent part is absent, and so above every number.
 use Rattle.std.specs.Prelude.{ℕ, ◌+◌, ◌≡◌, true, List, [], ◌∷◌, Option, None, Some}
 use Rattle.cube_kit.specs.Cubes.{Told, CubeMeaning, is_member, is_inside}
 use Rattle.task_kit.specs.Tasks.{TaskMeaning, cost_at, IsValid, cost_of}
@@ -25,15 +26,22 @@ least_sum table cube list = sum_of (permissive table cube) list
 abbrev pub greatest_sum : CaseTable → CubeMeaning → List ℕ → Option ℕ
 greatest_sum table cube list = sum_of (restrictive table cube) list
 
--- a valid list has a sum, which is its cost; in each member a list costs no less than its least cost over the cube and no more than its
--- greatest; and the least and greatest costs over an inner cube lie between those over the outer one
+-- a valid list has a sum, which is its cost; in each member a list costs no less than its least
+-- cost over the cube and no more than its
+-- greatest; and the least and greatest costs over an inner cube lie between those over the outer
+-- one
 pub record SumLaw : Type 0 where
-  pub valid : (task : TaskMeaning) (list : List ℕ) → IsValid task list → sum_of task list ≡ Some (cost_of task list)
-  pub least : (table : CaseTable) (cube : CubeMeaning) (told : Told) (list : List ℕ) → is_member cube told ≡ true →
+  pub valid : (task : TaskMeaning) (list : List ℕ) → IsValid task list
+      → sum_of task list ≡ Some (cost_of task list)
+  pub least : (table : CaseTable) (cube : CubeMeaning) (told : Told) (list : List ℕ)
+      → is_member cube told ≡ true →
       IsNoDearer (least_sum table cube list) (sum_of (member table told) list)
-  pub greatest : (table : CaseTable) (cube : CubeMeaning) (told : Told) (list : List ℕ) → is_member cube told ≡ true →
+  pub greatest : (table : CaseTable) (cube : CubeMeaning) (told : Told) (list : List ℕ)
+      → is_member cube told ≡ true →
       IsNoDearer (sum_of (member table told) list) (greatest_sum table cube list)
-  pub least_inner : (table : CaseTable) (inner outer : CubeMeaning) (list : List ℕ) → is_member inner inner.told ≡ true → is_inside inner outer ≡ true →
+  pub least_inner : (table : CaseTable) (inner outer : CubeMeaning) (list : List ℕ)
+      → is_member inner inner.told ≡ true → is_inside inner outer ≡ true →
       IsNoDearer (least_sum table outer list) (least_sum table inner list)
-  pub greatest_inner : (table : CaseTable) (inner outer : CubeMeaning) (list : List ℕ) → is_member inner inner.told ≡ true → is_inside inner outer ≡ true →
+  pub greatest_inner : (table : CaseTable) (inner outer : CubeMeaning) (list : List ℕ)
+      → is_member inner inner.told ≡ true → is_inside inner outer ≡ true →
       IsNoDearer (greatest_sum table inner list) (greatest_sum table outer list)

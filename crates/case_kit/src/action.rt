@@ -6,7 +6,8 @@ use crate::costs::CaseCost;
 use mre_base::{Copied, List, NoMemory};
 use std::alloc::Global;
 
-/// A ground action in all models: the cases of its preconditions, adds and deletes, its cost, and when a model knows it. Where it isn't
+/// A ground action in all models: the cases of its preconditions, adds and deletes, its cost, and
+/// when a model knows it. Where it isn't
 /// known it has no cost.
 #[derive(Debug)]
 pub struct CaseAction {
@@ -53,7 +54,8 @@ fn any_speaks_of(cases: &List<Case>, number: u32) -> bool
 }
 
 impl CaseAction {
-    /// Whether the difference has a part in the action: in a case, in its cost, or in whether it is known.
+    /// Whether the difference has a part in the action: in a case, in its cost, or in whether it is
+    /// known.
     pub fn touches(&self, number: u32) -> bool
         ensures { result ≡ touches self.now number }
     {

@@ -51,7 +51,8 @@ impl CaseValue {
 impl CaseCost {
     ghost use Rattle.case_kit.specs.Members.{cost_if_known};
 
-    /// Whether some number stands in the cost. Then, and only then, there is a set of differences after which an action has a cost, whatever
+    /// Whether some number stands in the cost. Then, and only then, there is a set of differences
+    /// after which an action has a cost, whatever
     /// the condition under which it is known.
     pub fn has_number(self) -> bool
         requires { IsTrue (is_apart self) }

@@ -1,4 +1,5 @@
-//! Case tables: the tasks of all sets of differences in one table, and for a cube of sets the two tasks that bound those of its members.
+//! Case tables: the tasks of all sets of differences in one table, and for a cube of sets the two
+//! tasks that bound those of its members.
 #![tactic(auto)]
 
 mod action;

@@ -1,7 +1,8 @@
 //! The costs in the tasks of a cube.
 ghost use Rattle.std.specs.Prelude.{◌≡◌, ◌^◌, ◌<◌, IsTrue, unwrap_or};
 ghost use Rattle.case_kit.specs.Sound.{is_listed_in, is_value_listed, is_cost_listed};
-ghost use Rattle.case_kit.specs.Evaluated.{least_of, greatest_of, best_of, value_by, cost_by, known_cost_by};
+ghost use Rattle.case_kit.specs.Evaluated.{least_of, greatest_of, best_of, value_by, cost_by};
+ghost use Rattle.case_kit.specs.Evaluated.{known_cost_by};
 
 use crate::action::CaseAction;
 use crate::costs::{CaseCost, CaseValue};

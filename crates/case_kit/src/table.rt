@@ -14,7 +14,8 @@ use mre_base::{Bits, Copied, List, NoMemory};
 use std::alloc::Global;
 use task_kit::{Task, TaskAction};
 
-/// The tasks of all sets of the differences 1 to `d`: each condition and each cost says how it is where a set is told and the rest is
+/// The tasks of all sets of the differences 1 to `d`: each condition and each cost says how it is
+/// where a set is told and the rest is
 /// left. Atoms count from 0, and `atoms` stands for all that can never be true.
 #[derive(Debug)]
 pub struct CaseTable {
@@ -41,7 +42,8 @@ impl Drop for CaseTable {
 impl CaseTable {
     ghost use Rattle.std.specs.Prelude.{map, All};
     ghost use Rattle.case_kit.specs.Members.{member};
-    ghost use Rattle.case_kit.specs.Relaxed.{IsPermissive, IsRestrictive, IsLeastCost, IsGreatestCost};
+    ghost use Rattle.case_kit.specs.Relaxed.{IsPermissive, IsRestrictive, IsLeastCost};
+    ghost use Rattle.case_kit.specs.Relaxed.{IsGreatestCost};
     ghost use Rattle.case_kit.specs.Evaluated.{meant, permissive, restrictive, relaxed};
 
     pub fn copy(&self, alloc: Global) -> Result<CaseTable, NoMemory>
@@ -56,7 +58,8 @@ impl CaseTable {
         })
     }
 
-    /// The task in which all that may help is there, and what may hinder is not: each list that is valid in some member of the cube is
+    /// The task in which all that may help is there, and what may hinder is not: each list that is
+    /// valid in some member of the cube is
     /// valid here, at no greater cost.
     pub fn permissive(&self, alloc: Global, cube: &Cube) -> Result<Task, NoMemory>
         requires cube { IsCube self.now.d cube.now }
@@ -66,7 +69,8 @@ impl CaseTable {
         Ok(self.task_by(alloc, cube, Way::Permissive)?)
     }
 
-    /// The task in which all that may hinder is there, and what may help is not: each list that is valid here is valid in every member
+    /// The task in which all that may hinder is there, and what may help is not: each list that is
+    /// valid here is valid in every member
     /// of the cube, at no greater cost.
     pub fn restrictive(&self, alloc: Global, cube: &Cube) -> Result<Task, NoMemory>
         requires cube { IsCube self.now.d cube.now }
@@ -87,7 +91,8 @@ impl CaseTable {
         self.cost_by(action, cube, Way::Permissive)
     }
 
-    /// The greatest cost of an action over the members of the cube, or none where it has none in some member.
+    /// The greatest cost of an action over the members of the cube, or none where it has none in
+    /// some member.
     pub fn high(&self, action: u32, cube: &Cube) -> Option<u32>
         requires action { action < length self.now.actions }
         requires cube { IsCube self.now.d cube.now }

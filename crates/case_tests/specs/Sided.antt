@@ -1,4 +1,5 @@
--- Cases for tests: the differences up to a number are of what the planner's model alone has, and the others of what the user's model alone has.
+-- Cases for tests: the differences up to a number are of what the planner's model alone has, and
+-- the others of what the user's model alone has.
 use Rattle.std.specs.Prelude.{ℕ, ◌+◌, ◌≡◌, ◌<◌, Bool, true, ◌&&◌, nat_le, nat_lt, All}
 use Rattle.case_kit.specs.declared.cases.When.{When}
 use Rattle.case_kit.specs.declared.cases.When.TheVariants.{Always, IfTold, IfLeft}

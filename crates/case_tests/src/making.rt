@@ -18,7 +18,8 @@ pub struct Row<'a> {
     pub known: When,
 }
 
-/// How many differences there are, up to which of them the planner's model alone has what differs, and how many atoms there are.
+/// How many differences there are, up to which of them the planner's model alone has what differs,
+/// and how many atoms there are.
 #[derive(Clone, Copy)]
 pub struct Size {
     pub d: u32,

@@ -41,7 +41,8 @@ fn number(cost: u32) -> CaseCost
     CaseCost::One(CaseValue::One(Some(cost)))
 }
 
-// N. Atoms: 0 (at a), 1 (at b), 2 (at c), 3 (link a b), 4 (link b c). Actions: 0 (go a b), 1 (go b c), 2 (ride). What go costs differs: 4
+// N. Atoms: 0 (at a), 1 (at b), 2 (at c), 3 (link a b), 4 (link b c). Actions: 0 (go a b), 1 (go b
+// c), 2 (ride). What go costs differs: 4
 // where it is left, and the road where it is told; the road from b to c is 9 or 5.
 fn n_table(alloc: Global) -> Result<CaseTable, Fail>
     ensures { IfOk result (λ table. table.d ≡ 2) }
@@ -200,7 +201,8 @@ fn both_tasks_of_a_single_cube_of_n_are_its_member(rt: HostRuntime) -> Result<()
     Ok(())
 }
 
-// Five differences: 1 and 2 are of what the planner's model alone has, 3 to 5 of what the user's model alone has. Atom 1 is true at the
+// Five differences: 1 and 2 are of what the planner's model alone has, 3 to 5 of what the user's
+// model alone has. Atom 1 is true at the
 // start by either of two differences, and the action is known where difference 5 is left.
 fn sided_table(alloc: Global) -> Result<CaseTable, Fail>
     ensures { IfOk result (λ table. table.d ≡ 5) }

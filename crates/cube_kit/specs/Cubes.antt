@@ -1,4 +1,5 @@
--- Cubes of sets of difference numbers. A cube tells some numbers, leaves some, and has not decided the others; its members are the sets that have what it tells and nothing that it leaves.
+-- Cubes of sets of difference numbers. A cube tells some numbers, leaves some, and has not decided
+-- the others; its members are the sets that have what it tells and nothing that it leaves.
 use Rattle.std.specs.Prelude.{ℕ, ◌≡◌, ◌≤◌, Bool, true, ◌&&◌, not, if◌then◌else◌, nat_le, refl}
 use Rattle.std.specs.Ordering.{nat_cmp}
 use Rattle.std.specs.List.{range_with_len}
@@ -18,7 +19,9 @@ pub record CubeMeaning : Type 0 where
 -- a cube is stored as the triple of its sets
 abbrev pub cube_code : Coded CubeMeaning
 cube_code =
-    code_by (set.FinSet nat_cmp × (set.FinSet nat_cmp × set.FinSet nat_cmp)) (coded× (set.code coded_ℕ) (coded× (set.code coded_ℕ) (set.code coded_ℕ))) (λ c. (c.told, (c.left, c.undecided)))
+    code_by (set.FinSet nat_cmp × (set.FinSet nat_cmp × set.FinSet nat_cmp))
+    (coded× (set.code coded_ℕ) (coded× (set.code coded_ℕ) (set.code coded_ℕ)))
+    (λ c. (c.told, (c.left, c.undecided)))
     (λ p. record { told = p.0; left = p.1.0; undecided = p.1.1 }) (λ _. refl)
 
 -- the number is one of 1 to d
@@ -32,20 +35,27 @@ IsWithin d s = (k : ℕ) → set.contains s k ≡ true → (1 ≤ k) × (k ≤ d
 -- exactly one of three tests is passed where a number is listed, and none elsewhere
 abbrev pub is_one_of : Bool → Bool → Bool → Bool → Bool
 is_one_of listed told left undecided =
-    if listed then (if told then not left && not undecided else if left then not undecided else undecided) else (not told && (not left && not undecided))
+    if listed then (if told then not left
+    && not undecided else if left then not undecided else undecided)
+    else (not told && (not left && not undecided))
 
 -- the three sets split the numbers from 1 to d
 abbrev pub IsCube : ℕ → CubeMeaning → Type 0
-IsCube d c = (k : ℕ) → is_one_of (is_listed d k) (set.contains c.told k) (set.contains c.left k) (set.contains c.undecided k) ≡ true
+IsCube d c =
+    (k : ℕ) → is_one_of (is_listed d k) (set.contains c.told k) (set.contains c.left k)
+    (set.contains c.undecided k) ≡ true
 
 -- at most one of three tests is passed where a number is listed, and none elsewhere
 abbrev pub is_at_most_one_of : Bool → Bool → Bool → Bool → Bool
 is_at_most_one_of listed told left undecided =
-    if listed then (if told then not left && not undecided else not (left && undecided)) else (not told && (not left && not undecided))
+    if listed then (if told then not left && not undecided else not (left && undecided))
+    else (not told && (not left && not undecided))
 
 -- the three sets have no common number, and no number beyond 1 to 256
 abbrev pub IsApart : CubeMeaning → Type 0
-IsApart c = (k : ℕ) → is_at_most_one_of (is_listed 256 k) (set.contains c.told k) (set.contains c.left k) (set.contains c.undecided k) ≡ true
+IsApart c =
+    (k : ℕ) → is_at_most_one_of (is_listed 256 k) (set.contains c.told k) (set.contains c.left k)
+    (set.contains c.undecided k) ≡ true
 
 -- the set has what is told, and nothing of what is left
 abbrev pub is_member : CubeMeaning → Told → Bool
@@ -69,12 +79,25 @@ above d s = record { told = s; left = set.empty; undecided = set.difference (all
 
 -- the cube with one more number told
 abbrev pub told_child : CubeMeaning → ℕ → CubeMeaning
-told_child c place = record { told = set.insert c.told place; left = c.left; undecided = set.remove c.undecided place }
+told_child c place =
+    record {
+      told = set.insert c.told place;
+      left = c.left;
+      undecided = set.remove c.undecided
+          place;
+    }
 
 -- the cube with one more number left
 abbrev pub left_child : CubeMeaning → ℕ → CubeMeaning
-left_child c place = record { told = c.told; left = set.insert c.left place; undecided = set.remove c.undecided place }
+left_child c place =
+    record {
+      told = c.told;
+      left = set.insert c.left place;
+      undecided = set.remove c.undecided
+          place;
+    }
 
--- the first cube tells what the second tells and leaves what it leaves, so each member of the first is one of the second
+-- the first cube tells what the second tells and leaves what it leaves, so each member of the first
+-- is one of the second
 abbrev pub is_inside : CubeMeaning → CubeMeaning → Bool
 is_inside e c = set.is_subset c.told e.told && set.is_subset c.left e.left

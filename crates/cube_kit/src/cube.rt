@@ -2,14 +2,16 @@ ghost use Rattle.std.specs.Prelude.{ℕ, ◌≡◌, ◌≤◌, ◌↔◌, ◌&&�
 ghost use Rattle.std.specs.FinSet as set;
 ghost use Rattle.std.specs.FinSet.{is_subset};
 ghost use Rattle.mre_base.specs.Before.{is_before};
-ghost use Rattle.cube_kit.specs.Cubes.{Told, IsWithin, IsCube, is_member, all_to, root, single, above};
+ghost use Rattle.cube_kit.specs.Cubes.{Told, IsWithin, IsCube, is_member, all_to, root, single};
+ghost use Rattle.cube_kit.specs.Cubes.{above};
 ghost use Rattle.cube_kit.specs.Child.{child, is_on};
 ghost use Rattle.cube_kit.specs.Weighing.{AreWeights};
 
 use mre_base::{MOST_PLACES, Places, Side};
 use std::marker::Model;
 
-/// A collection of sets of differences: those that have each told number and none that is left. The undecided numbers are free.
+/// A collection of sets of differences: those that have each told number and none that is left. The
+/// undecided numbers are free.
 /// The three sets have no common number, and no call takes memory.
 #[derive(Debug, Drop)]
 pub struct Cube {
@@ -102,7 +104,8 @@ impl Cube {
         }
     }
 
-    /// The cube in which an undecided number is told or left. Its members are those of this cube that have the number, or lack it.
+    /// The cube in which an undecided number is told or left. Its members are those of this cube
+    /// that have the number, or lack it.
     pub fn decide(&self, place: u32, side: Side) -> Cube
         requires { IsTrue (set.contains self.now.undecided place) }
         ensures is { result ≡ child self.now place side }
@@ -136,7 +139,8 @@ impl Cube {
     pub fn least(&self) -> Places
         ensures is { result ≡ self.now.told }
         ensures member { IsTrue (is_member self.now result) }
-        ensures first { (weights : List ℕ) (s : Told) → AreWeights weights → IsWithin (length weights) s →
+        ensures first { (weights : List ℕ) (s : Told) → AreWeights weights
+            → IsWithin (length weights) s →
             IsTrue (is_member self.now s) → (result ≡ s) ⊎ IsTrue (is_before weights result s) }
     {
         self.told.copy()

@@ -21,7 +21,8 @@ pub fn sum_of(weights: &[u32], of: &Places) -> u64
     sum
 }
 
-// Whether the first of two sets with as many numbers from 1 to d has the earlier list: at the first number that one of them lacks, it
+// Whether the first of two sets with as many numbers from 1 to d has the earlier list: at the first
+// number that one of them lacks, it
 // has the number.
 fn is_earlier(d: u32, one: &Places, two: &Places) -> bool
     requires few { d ≤ 256 }
@@ -37,7 +38,8 @@ fn is_earlier(d: u32, one: &Places, two: &Places) -> bool
     false
 }
 
-/// Whether the first set is before the second: by its smaller total weight, then by its fewer numbers, then by its earlier list.
+/// Whether the first set is before the second: by its smaller total weight, then by its fewer
+/// numbers, then by its earlier list.
 pub fn is_before(weights: &Weights, one: &Places, two: &Places) -> bool
     ensures is { result ≡ is_before weights.now one.now two.now }
     ensures narrow { (d : ℕ) → d ≤ 256 → IsWithin d one.now → IsWithin d two.now →

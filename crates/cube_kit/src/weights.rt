@@ -1,4 +1,5 @@
-ghost use Rattle.std.specs.Prelude.{ℕ, ◌≡◌, ◌≤◌, ◌-◌, length, replicate, slice_index, slice_set, take};
+ghost use Rattle.std.specs.Prelude.{ℕ, ◌≡◌, ◌≤◌, ◌-◌, length, replicate, slice_index, slice_set};
+ghost use Rattle.std.specs.Prelude.{take};
 ghost use Rattle.mre_base.specs.Before.{numbers, weight};
 ghost use Rattle.cube_kit.specs.Cubes.{IsWithin};
 
@@ -12,7 +13,8 @@ pub const MOST_WEIGHT: u32 = 1000000;
 // The limit is the one of the definitions.
 const _: () = prove!(MOST_WEIGHT == 1000000);
 
-/// A weight for each difference, seen as the list of the 256 weights from difference 1 on. No call takes memory.
+/// A weight for each difference, seen as the list of the 256 weights from difference 1 on. No call
+/// takes memory.
 #[derive(Drop)]
 pub struct Weights {
     weights: [u32; 256],

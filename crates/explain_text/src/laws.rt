@@ -5,7 +5,8 @@ ghost use Rattle.explain_text.specs.Laws.{ListLaw, LinesLaw, TextLaw};
 use feature_diff::Difference;
 use mre_base::{Kind, List, Places};
 
-/// The lines of a list of differences, and those of an explanation, hold the text that their definitions give for each two models of
+/// The lines of a list of differences, and those of an explanation, hold the text that their
+/// definitions give for each two models of
 /// which the differences tell the truth.
 pub fn law_text(differences: &List<Difference>, kind: Kind, told: &Places, cost: u64)
     ensures list { ListLaw differences.now }

@@ -10,8 +10,10 @@ use model_kit::Vocabulary;
 use mre_base::{Kind, List, NoMemory, Places, Text};
 use std::alloc::Global;
 
-/// The lines of an explanation, each with its line feed: its kind and size, a numbered sentence for each told difference in ascending
-/// order, and what the plan costs after them. The words are those that the differences are numbered by.
+/// The lines of an explanation, each with its line feed: its kind and size, a numbered sentence for
+/// each told difference in ascending
+/// order, and what the plan costs after them. The words are those that the differences are numbered
+/// by.
 pub fn text_of(
     alloc: Global,
     differences: &List<Difference>,
@@ -24,7 +26,8 @@ pub fn text_of(
     requires few { length differences.now ≤ 256 }
     requires told { AreAmong (length differences.now) told.now }
     ensures ok { IfOk result (λ lines. lines
-        ≡ lines_of kind words.now differences.now (numbers (length differences.now) told.now) cost) }
+        ≡ lines_of kind words.now differences.now (numbers (length differences.now) told.now)
+        cost) }
 {
     let size = told.count();
     let all = differences.len();
@@ -34,7 +37,8 @@ pub fn text_of(
     Ok(lines)
 }
 
-/// The line `head`, and a line for each chosen number that a difference has, in ascending order: the number and the difference's
+/// The line `head`, and a line for each chosen number that a difference has, in ascending order:
+/// the number and the difference's
 /// sentence. Each line has its line feed.
 pub fn list_of(
     alloc: Global,
@@ -46,7 +50,8 @@ pub fn list_of(
     requires fit { All (FitsWords words.now) differences.now }
     requires few { length differences.now ≤ 256 }
     ensures ok { IfOk result (λ lines. lines
-        ≡ list_lines head.now words.now differences.now (numbers (length differences.now) chosen.now)) }
+        ≡ list_lines head.now words.now differences.now
+        (numbers (length differences.now) chosen.now)) }
 {
     let mut lines = List::empty(alloc);
     lines.push(full_line(alloc, head)?)?;

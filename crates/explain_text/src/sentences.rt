@@ -1,7 +1,8 @@
 ghost use Rattle.std.specs.Prelude.{◌≡◌, ◌<◌, if◌then◌else◌, IsTrue, IfOk, length};
 ghost use Rattle.std.specs.String.{string_bytes};
 ghost use Rattle.model_kit.specs.declared.vocabulary.Vocabulary.{Vocabulary as AnyVocabulary};
-ghost use Rattle.model_kit.specs.Vocabulary.{is_object_of, fits_signature, is_ground_atom, IsSchemaAtom};
+ghost use Rattle.model_kit.specs.Vocabulary.{is_object_of, fits_signature, is_ground_atom};
+ghost use Rattle.model_kit.specs.Vocabulary.{IsSchemaAtom};
 ghost use Rattle.model_kit.specs.Features.{IsCost};
 ghost use Rattle.model_kit.specs.Places as place;
 ghost use Rattle.model_kit.specs.Places.{Price, Worth};
@@ -70,7 +71,8 @@ fn of_start(
     planner_has: bool,
 ) -> Result<Text, NoMemory>
     requires { IsTrue (is_ground_atom words.now atom.now) }
-    ensures ok { IfOk result (λ text. text ≡ feature_sentence words.now planner_has (place.Init atom.now)) }
+    ensures ok { IfOk result (λ text. text
+        ≡ feature_sentence words.now planner_has (place.Init atom.now)) }
 {
     let form = print_atom(alloc, words, atom)?;
     let truth = either(planner_has, "is true", "is not true");
@@ -86,7 +88,8 @@ fn of_goal(
     planner_has: bool,
 ) -> Result<Text, NoMemory>
     requires { IsTrue (is_ground_atom words.now atom.now) }
-    ensures ok { IfOk result (λ text. text ≡ feature_sentence words.now planner_has (place.Goal atom.now)) }
+    ensures ok { IfOk result (λ text. text
+        ≡ feature_sentence words.now planner_has (place.Goal atom.now)) }
 {
     let form = print_atom(alloc, words, atom)?;
     let has = either(planner_has, "has", "does not have");
@@ -102,7 +105,8 @@ fn of_knowledge(
     planner_has: bool,
 ) -> Result<Text, NoMemory>
     requires { action < length words.now.actions }
-    ensures ok { IfOk result (λ text. text ≡ feature_sentence words.now planner_has (place.Knows action)) }
+    ensures ok { IfOk result (λ text. text
+        ≡ feature_sentence words.now planner_has (place.Knows action)) }
 {
     let exists = either(planner_has, "exists", "does not exist");
     said_of_action(alloc, words, action, exists)
@@ -198,7 +202,8 @@ fn of_value(
     planner: Option<u32>,
     user: Option<u32>,
 ) -> Result<Text, NoMemory>
-    requires { IsTrue (fits_signature (is_object_of words.now) words.now.functions function objects.now) }
+    requires { IsTrue (fits_signature (is_object_of words.now) words.now.functions function
+        objects.now) }
     ensures ok { IfOk result (λ text. text
         ≡ sentence words.now (Worth planner) (Worth user) (place.Value function objects.now)) }
 {

@@ -1,5 +1,6 @@
 -- The user's model with each told place as the planner has it.
-use Rattle.std.specs.Prelude.{ℕ, ◌≡◌, ◌<◌, ◌++◌, Bool, true, false, Some, List, length, filter, slice_get, if◌then◌else◌}
+use Rattle.std.specs.Prelude.{ℕ, ◌≡◌, ◌<◌, ◌++◌, Bool, true, false, Some, List, length, filter}
+use Rattle.std.specs.Prelude.{slice_get, if◌then◌else◌}
 use Rattle.std.specs.Bool.{beq}
 use Rattle.std.specs.Ordering.{nat_cmp}
 use Rattle.std.specs.FinSet as set
@@ -39,9 +40,11 @@ blended_schema test action planner user = record {
 }
 
 -- so are the schemas before a number
-pub record AreBlended (test : Place → Bool) (planner user : List Schema) (bound : ℕ) (schemas : List Schema) : Type 0 where
+pub record AreBlended (test : Place → Bool) (planner user : List Schema) (bound : ℕ)
+    (schemas : List Schema) : Type 0 where
   pub counted : length schemas ≡ bound
-  pub each : (n : ℕ) (s t : Schema) → n < bound → slice_get planner n ≡ Some s → slice_get user n ≡ Some t → slice_get schemas n ≡ Some (blended_schema test n s t)
+  pub each : (n : ℕ) (s t : Schema) → n < bound → slice_get planner n ≡ Some s
+      → slice_get user n ≡ Some t → slice_get schemas n ≡ Some (blended_schema test n s t)
 
 -- so is the whole model
 pub record IsBlend (test : Place → Bool) (planner user model : Model) : Type 0 where

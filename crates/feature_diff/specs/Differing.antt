@@ -1,5 +1,7 @@
--- What a difference says: its place, and what stands there in the planner's model and in the user's. And the list of all differences.
-use Rattle.std.specs.Prelude.{ℕ, ◌≡◌, ◌≤◌, ◌<◌, not, IsTrue, List, map, length, All, Result, Ok, Err}
+-- What a difference says: its place, and what stands there in the planner's model and in the
+-- user's. And the list of all differences.
+use Rattle.std.specs.Prelude.{ℕ, ◌≡◌, ◌≤◌, ◌<◌, not, IsTrue, List, map, length, All, Result, Ok}
+use Rattle.std.specs.Prelude.{Err}
 use Rattle.std.specs.Ordering.{nat_cmp}
 use Rattle.std.specs.FinSet as set
 use Rattle.model_kit.specs.declared.vocabulary.Vocabulary.{Vocabulary}
@@ -10,7 +12,8 @@ use Rattle.model_kit.specs.Differences.{AreDifferences}
 pub use Rattle.model_kit.specs.Features.{IsCost}
 use Rattle.model_kit.specs.Vocabulary.{is_object_of, fits_signature, is_ground_atom, IsSchemaAtom}
 use Rattle.feature_diff.specs.declared.difference.Difference.{Difference}
-use Rattle.feature_diff.specs.declared.difference.Difference.TheVariants.{Init, Goal, Knows, Pre, Add, Del, Cost, Value}
+use Rattle.feature_diff.specs.declared.difference.Difference.TheVariants.{Init, Goal, Knows, Pre}
+use Rattle.feature_diff.specs.declared.difference.Difference.TheVariants.{Add, Del, Cost, Value}
 use Rattle.feature_diff.specs.declared.pair.DiffStop.{DiffStop}
 use Rattle.feature_diff.specs.declared.pair.DiffStop.TheVariants.{TooMany, NoMemory}
 
@@ -63,8 +66,10 @@ FitsWords words (Knows action has) = action < length words.actions
 FitsWords words (Pre action atom has) = (action < length words.actions) × IsSchemaAtom words atom
 FitsWords words (Add action atom has) = (action < length words.actions) × IsSchemaAtom words atom
 FitsWords words (Del action atom has) = (action < length words.actions) × IsSchemaAtom words atom
-FitsWords words (Cost action planner user) = (action < length words.actions) × IsCost words planner × IsCost words user
-FitsWords words (Value function objects planner user) = IsTrue (fits_signature (is_object_of words) words.functions function objects)
+FitsWords words (Cost action planner user) =
+    (action < length words.actions) × IsCost words planner × IsCost words user
+FitsWords words (Value function objects planner user) =
+    IsTrue (fits_signature (is_object_of words) words.functions function objects)
 
 -- these are all differences of two models over one vocabulary, in their order
 pub record AreDifferencesOf (planner user : Model) (differences : List Difference) : Type 0 where

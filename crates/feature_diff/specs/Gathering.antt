@@ -1,5 +1,7 @@
--- Differences that are counted, and kept while they are at most 256. What two lists tell, form by form.
-use Rattle.std.specs.Prelude.{ℕ, ◌≡◌, ◌+◌, ◌<◌, ◌≤◌, Bool, true, false, Option, Some, None, List, [], ◌∷◌, ◌++◌, length, map, flat_map, slice_get}
+-- Differences that are counted, and kept while they are at most 256. What two lists tell, form by
+-- form.
+use Rattle.std.specs.Prelude.{ℕ, ◌≡◌, ◌+◌, ◌<◌, ◌≤◌, Bool, true, false, Option, Some, None, List}
+use Rattle.std.specs.Prelude.{[], ◌∷◌, ◌++◌, length, map, flat_map, slice_get}
 use Rattle.std.specs.Option.{option_to_list}
 use Rattle.feature_diff.specs.declared.difference.Difference.{Difference}
 use Rattle.feature_diff.specs.declared.gathered.Gathered.{Gathered}
@@ -45,4 +47,5 @@ module _ {X : Type 0} (alone : X → Bool → Difference) (both : X → X → Op
   -- what two lists tell, form by form, came to the differences so far
   abbrev pub AllTold : (X → List ℕ) → List X → List X → Gathered → Gathered → Type 0
   AllTold form planner user before after =
-      (rows : List Row) × AreRows (map form planner) (map form user) rows × Grows before after (flat_map (row_told planner user) rows)
+      (rows : List Row) × AreRows (map form planner) (map form user) rows
+      × Grows before after (flat_map (row_told planner user) rows)

@@ -16,14 +16,18 @@ pub record IsOne (planner user : Model) (In : ℕ → Type 0) (difference : Diff
   pub inside : In (group planner.words (place_of difference))
 
 -- these are all differences of two models in these groups, in order
-pub record IsPart (planner user : Model) (In : ℕ → Type 0) (differences : List Difference) : Type 0 where
+pub record IsPart (planner user : Model) (In : ℕ → Type 0)
+    (differences : List Difference) : Type 0 where
   pub each : All (IsOne planner user In) differences
   pub ordered : AllPairs (IsListedBefore planner.words) (places_of differences)
-  pub complete : (p : Place) → In (group planner.words p) → (meaning planner p ≡ meaning user p) ⊎ Contains (places_of differences) p
+  pub complete : (p : Place) → In (group planner.words p)
+      → (meaning planner p ≡ meaning user p) ⊎ Contains (places_of differences) p
 
 -- the differences in one group came to those so far
 abbrev pub GainsGroup : Model → Model → ℕ → Gathered → Gathered → Type 0
-GainsGroup planner user number before after = (differences : List Difference) × IsPart planner user (λ n. n ≡ number) differences × Grows before after differences
+GainsGroup planner user number before after =
+    (differences : List Difference) × IsPart planner user (λ n. n ≡ number) differences
+    × Grows before after differences
 
 -- the differences so far are those in the groups below a number
 abbrev pub IsGathered : Model → Model → ℕ → Gathered → Type 0

@@ -1,5 +1,6 @@
 -- Two lists of printed forms side by side.
-use Rattle.std.specs.Prelude.{ℕ, ◌≡◌, ◌≢◌, ◌+◌, ◌<◌, ◌⊎◌, Option, Some, None, List, length, slice_get, All, AllPairs, Contains}
+use Rattle.std.specs.Prelude.{ℕ, ◌≡◌, ◌≢◌, ◌+◌, ◌<◌, ◌⊎◌, Option, Some, None, List, length}
+use Rattle.std.specs.Prelude.{slice_get, All, AllPairs, Contains}
 use Rattle.std.specs.Ordering.{nat_cmp, on}
 use Rattle.std.specs.declared.cmp.Ordering.{Ordering}
 use Rattle.std.specs.Cmp.Lexicographic.{slice_cmp}
@@ -25,28 +26,36 @@ spots_of (Some spots) = spots
 -- the map tells where each form stands among the first forms of two lists
 abbrev pub IsTable : List (List ℕ) → ℕ → List (List ℕ) → ℕ → BTreeMap Form Spots → Type 0
 IsTable planner m user n table =
-    (form : Form) → StandsAt planner m form.text (spots_of (get form_cmp table form)).planner × StandsAt user n form.text (spots_of (get form_cmp table form)).user
+    (form : Form) → StandsAt planner m form.text (spots_of (get form_cmp table form)).planner
+    × StandsAt user n form.text (spots_of (get form_cmp table form)).user
 
 -- the planner's list has the form at this place, and the second map tells so
 abbrev pub NotesPlanner : BTreeMap Form Spots → BTreeMap Form Spots → List ℕ → ℕ → Type 0
 NotesPlanner before after form place =
-    (planner user : List (List ℕ)) (n : ℕ) → slice_get planner place ≡ Some form → IsTable planner place user n before → IsTable planner (place + 1) user n after
+    (planner user : List (List ℕ)) (n : ℕ) → slice_get planner place ≡ Some form
+    → IsTable planner place user n before → IsTable planner (place + 1) user n after
 
 -- the same of the user's list
 abbrev pub NotesUser : BTreeMap Form Spots → BTreeMap Form Spots → List ℕ → ℕ → Type 0
 NotesUser before after form place =
-    (planner user : List (List ℕ)) (m : ℕ) → slice_get user place ≡ Some form → IsTable planner m user place before → IsTable planner m user (place + 1) after
+    (planner user : List (List ℕ)) (m : ℕ) → slice_get user place ≡ Some form
+    → IsTable planner m user place before → IsTable planner m user (place + 1) after
 
 -- the row tells where its form stands in two lists
 abbrev pub IsRow : List (List ℕ) → List (List ℕ) → Row → Type 0
-IsRow planner user row = StandsAt planner (length planner) row.form row.spots.planner × StandsAt user (length user) row.form row.spots.user
+IsRow planner user row =
+    StandsAt planner (length planner) row.form row.spots.planner
+    × StandsAt user (length user) row.form row.spots.user
 
 -- the rows tell where each form of two lists stands, in ASCII order and each once
 pub record AreRows (planner user : List (List ℕ)) (rows : List Row) : Type 0 where
   pub each : All (IsRow planner user) rows
   pub ordered : AllPairs (λ r s. IsPrintedBefore r.form s.form) rows
-  pub complete : (form : List ℕ) → Contains planner form ⊎ Contains user form → (row : Row) × Contains rows row × (row.form ≡ form)
+  pub complete : (form : List ℕ) → Contains planner form ⊎ Contains user form
+      → (row : Row) × Contains rows row × (row.form ≡ form)
 
 -- the map is laid out as rows
 abbrev pub IsLaidOut : BTreeMap Form Spots → List Row → Type 0
-IsLaidOut table rows = (planner user : List (List ℕ)) → IsTable planner (length planner) user (length user) table → AreRows planner user rows
+IsLaidOut table rows =
+    (planner user : List (List ℕ)) → IsTable planner (length planner) user (length user) table
+    → AreRows planner user rows

@@ -1,5 +1,6 @@
 -- Which difference is told of what a model has and the other has not, or has otherwise.
-use Rattle.std.specs.Prelude.{ℕ, ◌+◌, ◌*◌, ◌==◌, ◌&&◌, Bool, false, Option, Some, None, List, if◌then◌else◌}
+use Rattle.std.specs.Prelude.{ℕ, ◌+◌, ◌*◌, ◌==◌, ◌&&◌, Bool, false, Option, Some, None, List}
+use Rattle.std.specs.Prelude.{if◌then◌else◌}
 use Rattle.model_kit.specs.declared.atom.GroundAtom.{GroundAtom}
 use Rattle.model_kit.specs.declared.atom.SchemaAtom.{SchemaAtom}
 use Rattle.model_kit.specs.declared.model.Model.{Model}
@@ -70,7 +71,8 @@ same_cost (Call f args) (Number n) = false
 
 -- the value that one model alone has
 abbrev pub value_alone : ℕ × List ℕ × ℕ → Bool → Difference
-value_alone v has = told.Value v.0 v.1 (if has then Some v.2 else None) (if has then None else Some v.2)
+value_alone v has =
+    told.Value v.0 v.1 (if has then Some v.2 else None) (if has then None else Some v.2)
 
 -- the values of both models at the same objects, where they differ
 abbrev pub value_both : ℕ × List ℕ × ℕ → ℕ × List ℕ × ℕ → Option Difference

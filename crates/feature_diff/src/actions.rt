@@ -27,7 +27,8 @@ fn tell_knowledge(
 ) -> Result<(), NoMemory>
     requires joint { user.now.words ≡ planner.now.words }
     requires listed { action < length planner.now.words.actions }
-    ensures ok { OnOk result (GainsGroup planner.now user.now (2 + 5 * action) gathered.old gathered.new) }
+    ensures ok { OnOk result (GainsGroup planner.now user.now (2 + 5 * action) gathered.old
+        gathered.new) }
 {
     let planner_has = knows(planner, action);
     if planner_has == knows(user, action) {
@@ -66,7 +67,8 @@ fn tell_cost(
 ) -> Result<(), NoMemory>
     requires joint { user.now.words ≡ planner.now.words }
     requires listed { action < length planner.now.words.actions }
-    ensures ok { OnOk result (GainsGroup planner.now user.now (6 + 5 * action) gathered.old gathered.new) }
+    ensures ok { OnOk result (GainsGroup planner.now user.now (6 + 5 * action) gathered.old
+        gathered.new) }
 {
     let one = planner.schemas.item(action as usize);
     let other = user.schemas.item(action as usize);
@@ -92,7 +94,8 @@ fn tell_action(
 ) -> Result<(), NoMemory>
     requires joint { user.now.words ≡ planner.now.words }
     requires listed { action < length planner.now.words.actions }
-    ensures ok { OnOk result (IsGathered planner.now user.now (2 + 5 * action) gathered.old → IsGathered planner.now user.now (2 + 5 * (action + 1)) gathered.new) }
+    ensures ok { OnOk result (IsGathered planner.now user.now (2 + 5 * action) gathered.old
+        → IsGathered planner.now user.now (2 + 5 * (action + 1)) gathered.new) }
 {
     tell_knowledge(planner, user, action, gathered)?;
     let pre = ActionPart {
@@ -113,7 +116,8 @@ fn tell_action(
     tell_cost(alloc, planner, user, action, gathered)
 }
 
-// Tells all differences of all actions. So many actions that a number is none of the machine's are taken for want of memory.
+// Tells all differences of all actions. So many actions that a number is none of the machine's are
+// taken for want of memory.
 pub(crate) fn tell_actions(
     alloc: Global,
     planner: &Model,
@@ -122,7 +126,8 @@ pub(crate) fn tell_actions(
 ) -> Result<(), NoMemory>
     requires joint { user.now.words ≡ planner.now.words }
     requires facts { IsGathered planner.now user.now 2 gathered.old }
-    ensures ok { OnOk result (IsGathered planner.now user.now (2 + 5 * length planner.now.words.actions) gathered.new) }
+    ensures ok { OnOk result (IsGathered planner.now user.now
+        (2 + 5 * length planner.now.words.actions) gathered.new) }
 {
     if planner.words.actions.len() > u32::MAX as usize {
         return Err(NoMemory);

@@ -1,6 +1,7 @@
 ghost use Rattle.std.specs.Prelude.{◌≡◌, ◌++◌, ◌<◌, ◌≤◌, Some, IfOk, OnOk, length, slice_get};
 ghost use Rattle.feature_diff.specs.Telling.{place_in, part_of};
-ghost use Rattle.feature_diff.specs.Blending.{is_told_at, those, blended, blended_schema, AreBlended, IsBlend};
+ghost use Rattle.feature_diff.specs.Blending.{is_told_at, those, blended, blended_schema};
+ghost use Rattle.feature_diff.specs.Blending.{AreBlended, IsBlend};
 
 use crate::Difference;
 use crate::facts::FactKind;
@@ -22,7 +23,8 @@ fn keep<K, T: Spot<K>>(
     made: &mut List<T>,
 ) -> Result<(), NoMemory>
     requires few { length differences.now ≤ 256 }
-    ensures ok { OnOk result (made.new ≡ made.old ++ those (λ x. is_told_at differences.now told.now (T.place kind.now x)) wanted items.now) }
+    ensures ok { OnOk result (made.new ≡ made.old
+        ++ those (λ x. is_told_at differences.now told.now (T.place kind.now x)) wanted items.now) }
 {
     for place in 0..items.len() {
         let item = items.item(place);
@@ -43,7 +45,9 @@ fn blend<K, T: Spot<K>>(
     told: &Places,
 ) -> Result<List<T>, NoMemory>
     requires few { length differences.now ≤ 256 }
-    ensures ok { IfOk result (λ made. made ≡ blended (λ x. is_told_at differences.now told.now (T.place kind.now x)) planner.now user.now) }
+    ensures ok { IfOk result (λ made. made
+        ≡ blended (λ x. is_told_at differences.now told.now (T.place kind.now x)) planner.now
+        user.now) }
 {
     let mut made = List::empty(alloc);
     keep::<K, T>(alloc, planner, kind, differences, told, true, &mut made)?;
@@ -61,7 +65,9 @@ fn blend_part(
     told: &Places,
 ) -> Result<List<SchemaAtom>, NoMemory>
     requires few { length differences.now ≤ 256 }
-    ensures ok { IfOk result (λ made. made ≡ blended (λ f. is_told_at differences.now told.now (place_in kind.part kind.action f)) (part_of kind.part planner.now) (part_of kind.part user.now)) }
+    ensures ok { IfOk result (λ made. made
+        ≡ blended (λ f. is_told_at differences.now told.now (place_in kind.part kind.action f))
+        (part_of kind.part planner.now) (part_of kind.part user.now)) }
 {
     blend::<ActionPart, SchemaAtom>(
         alloc,
@@ -83,7 +89,8 @@ fn blend_schema(
     told: &Places,
 ) -> Result<Schema, NoMemory>
     requires few { length differences.now ≤ 256 }
-    ensures ok { IfOk result (λ made. made ≡ blended_schema (is_told_at differences.now told.now) action planner.now user.now) }
+    ensures ok { IfOk result (λ made. made
+        ≡ blended_schema (is_told_at differences.now told.now) action planner.now user.now) }
 {
     let pre = ActionPart {
         action,
@@ -121,7 +128,8 @@ fn blend_schemas(
 ) -> Result<List<Schema>, NoMemory>
     requires few { length differences.now ≤ 256 }
     requires one_each { length user.now ≡ length planner.now }
-    ensures ok { IfOk result (AreBlended (is_told_at differences.now told.now) planner.now user.now (length planner.now)) }
+    ensures ok { IfOk result (AreBlended (is_told_at differences.now told.now) planner.now user.now
+        (length planner.now)) }
 {
     if planner.len() > u32::MAX as usize {
         return Err(NoMemory);

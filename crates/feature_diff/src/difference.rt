@@ -1,7 +1,8 @@
 use model_kit::{CostExpr, GroundAtom, SchemaAtom};
 use mre_base::List;
 
-/// A place at which two models differ, in the numbers of their joint vocabulary: a feature that exactly one of them has, or a cost or
+/// A place at which two models differ, in the numbers of their joint vocabulary: a feature that
+/// exactly one of them has, or a cost or
 /// a value that is another in each.
 #[derive(Debug, Drop)]
 pub enum Difference {
@@ -44,7 +45,8 @@ pub enum Difference {
         planner: CostExpr,
         user: CostExpr,
     },
-    /// The value of a function at objects in the planner's model and in the user's, which may be absent.
+    /// The value of a function at objects in the planner's model and in the user's, which may be
+    /// absent.
     Value {
         function: u32,
         objects: List<u32>,

@@ -37,7 +37,8 @@ pub(crate) fn tell_facts(
     gathered: &mut Gathered,
 ) -> Result<(), NoMemory>
     requires joint { user.now.words ≡ planner.now.words }
-    ensures ok { OnOk result (GainsGroup planner.now user.now (fact_group kind) gathered.old gathered.new) }
+    ensures ok { OnOk result (GainsGroup planner.now user.now (fact_group kind) gathered.old
+        gathered.new) }
 {
     let words = &planner.words;
     tell::<FactKind, GroundAtom>(

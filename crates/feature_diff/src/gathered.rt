@@ -7,7 +7,8 @@ use std::alloc::Global;
 // The most differences that are listed.
 pub(crate) const MOST_DIFFERENCES: u32 = 256;
 
-// The number of the differences so far, and these themselves while they are few enough to be listed.
+// The number of the differences so far, and these themselves while they are few enough to be
+// listed.
 #[derive(Drop)]
 pub(crate) struct Gathered {
     pub(crate) found: u32,
@@ -27,7 +28,8 @@ impl Gathered {
         }
     }
 
-    // One more difference. So many that their number is none of the machine's are taken for want of memory.
+    // One more difference. So many that their number is none of the machine's are taken for want of
+    // memory.
     pub(crate) fn add(&mut self, difference: Difference) -> Result<(), NoMemory>
         ensures ok { OnOk result (Grows self.old self.new (difference ∷ [])) }
     {

@@ -12,7 +12,8 @@ use std::alloc::Global;
 // All differences of two models, group by group.
 pub(crate) fn gather(alloc: Global, planner: &Model, user: &Model) -> Result<Gathered, NoMemory>
     requires joint { user.now.words ≡ planner.now.words }
-    ensures ok { IfOk result (IsGathered planner.now user.now (3 + 5 * length planner.now.words.actions)) }
+    ensures ok { IfOk result (IsGathered planner.now user.now
+        (3 + 5 * length planner.now.words.actions)) }
 {
     let mut gathered = Gathered::none(alloc);
     tell_facts(alloc, planner, user, FactKind::Init, &mut gathered)?;

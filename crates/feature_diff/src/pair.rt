@@ -14,7 +14,8 @@ use model_kit::{Model, Vocabulary};
 use mre_base::{List, NoMemory, Places};
 use std::alloc::Global;
 
-/// The planner's model and the user's, both in the numbers of their joint vocabulary: the planner's entries with their numbers, and
+/// The planner's model and the user's, both in the numbers of their joint vocabulary: the planner's
+/// entries with their numbers, and
 /// after them the predicates, functions and actions that the user alone has.
 #[derive(Debug)]
 pub struct Pair {
@@ -52,15 +53,18 @@ impl From<NoMemory> for DiffStop {
 }
 
 impl Pair {
-    ghost use Rattle.feature_diff.specs.Differing.{AreDifferencesOf, IfTooMany, AreTooMany, IsToldOf, places_of};
+    ghost use Rattle.feature_diff.specs.Differing.{AreDifferencesOf, IfTooMany, AreTooMany};
+    ghost use Rattle.feature_diff.specs.Differing.{IsToldOf, places_of};
     ghost use Rattle.std.specs.Prelude.{List as ListOf};
     ghost use Rattle.feature_diff.specs.declared.difference.Difference.{Difference as AnyDifference};
 
-    /// Puts two models that know all their actions into the numbers of their joint vocabulary. They are dropped on a refusal.
+    /// Puts two models that know all their actions into the numbers of their joint vocabulary. They
+    /// are dropped on a refusal.
     pub fn pair(alloc: Global, planner: Model, user: Model) -> Result<Pair, PairStop>
         requires planner_whole { planner.unknown ≡ [] }
         requires user_whole { user.unknown ≡ [] }
-        ensures ok { IfOk result (λ pair. ArePaired planner user pair.planner.words pair.planner pair.user) }
+        ensures ok { IfOk result (λ pair. ArePaired planner user pair.planner.words pair.planner
+            pair.user) }
         ensures differs { IfDiffers result (IsFirstDisagreement planner.words user.words) }
         ensures disagree { IfDiffers result (λ fault. ¬ Agree planner.words user.words) }
     {
@@ -94,7 +98,8 @@ impl Pair {
     pub fn differences(&self, alloc: Global) -> Result<List<Difference>, DiffStop>
         ensures ok { IfOk result (AreDifferencesOf self.now.planner self.now.user) }
         ensures few { IfOk result (λ differences. length differences ≤ 256) }
-        ensures too_many { IfTooMany result (λ found limit. (limit ≡ 256) × AreTooMany self.now.planner self.now.user found) }
+        ensures too_many { IfTooMany result
+            (λ found limit. (limit ≡ 256) × AreTooMany self.now.planner self.now.user found) }
     {
         let Gathered { found, kept } = gather(alloc, &self.planner, &self.user)?;
         if found > MOST_DIFFERENCES {
@@ -106,12 +111,15 @@ impl Pair {
         Ok(kept)
     }
 
-    /// The user's model after the differences with these numbers are told. It lists all differences to know their numbers.
+    /// The user's model after the differences with these numbers are told. It lists all differences
+    /// to know their numbers.
     pub fn patched(&self, alloc: Global, told: &Places) -> Result<Model, NoMemory>
         requires within { IsToldOf self.now.planner self.now.user told.now }
         ensures words { IfOk result (λ model. model.words ≡ self.now.planner.words) }
-        ensures ok { IfOk result (λ model. (differences : ListOf AnyDifference) → AreDifferencesOf self.now.planner self.now.user differences →
-            meaning model ≡ patched (meaning self.now.planner) (meaning self.now.user) (places_of differences) told.now) }
+        ensures ok { IfOk result (λ model. (differences : ListOf AnyDifference)
+            → AreDifferencesOf self.now.planner self.now.user differences →
+            meaning model ≡ patched (meaning self.now.planner) (meaning self.now.user) (places_of
+            differences) told.now) }
     {
         let differences = match self.differences(alloc) {
             Ok(differences) => differences,

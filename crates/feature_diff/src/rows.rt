@@ -1,6 +1,7 @@
 ghost use Rattle.std.specs.Prelude.{◌≡◌, IfOk, OnOk};
 ghost use Rattle.std.specs.BTreeMap.{get};
-ghost use Rattle.feature_diff.specs.Rows.{form_cmp, spots_of, NotesPlanner, NotesUser, AreRows, IsLaidOut};
+ghost use Rattle.feature_diff.specs.Rows.{form_cmp, spots_of, NotesPlanner, NotesUser, AreRows};
+ghost use Rattle.feature_diff.specs.Rows.{IsLaidOut};
 
 use crate::form::Form;
 use mre_base::{List, NoMemory, Text};

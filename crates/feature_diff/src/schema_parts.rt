@@ -47,7 +47,8 @@ pub(crate) fn tell_part(
 ) -> Result<(), NoMemory>
     requires joint { user.now.words ≡ planner.now.words }
     requires listed { kind.action < length planner.now.words.actions }
-    ensures ok { OnOk result (GainsGroup planner.now user.now (group_in kind.part kind.action) gathered.old gathered.new) }
+    ensures ok { OnOk result (GainsGroup planner.now user.now (group_in kind.part kind.action)
+        gathered.old gathered.new) }
 {
     let place = kind.action as usize;
     let signature = planner.words.actions.item(place);

@@ -1,7 +1,8 @@
 ghost use Rattle.std.specs.Prelude.{◌≡◌, Bool, All, map, flat_map, IfOk, OnOk, Option};
 ghost use Rattle.std.specs.Option.{option_to_list};
 ghost use Rattle.model_kit.specs.declared.vocabulary.Vocabulary.{Vocabulary};
-ghost use Rattle.feature_diff.specs.Gathering.{Grows, IsWithin, AreWithin, spots_told, row_told, AllTold};
+ghost use Rattle.feature_diff.specs.Gathering.{Grows, IsWithin, AreWithin, spots_told, row_told};
+ghost use Rattle.feature_diff.specs.Gathering.{AllTold};
 ghost use Rattle.feature_diff.specs.Rows.{AreRows};
 
 use crate::Difference;
@@ -32,7 +33,8 @@ pub(crate) trait Told<K> {
     fn tell_alone(&self, alloc: Global, kind: &K, planner_has: bool) -> Result<Difference, NoMemory>
         ensures ok { IfOk result (λ difference. difference ≡ alone kind.now self.now planner_has) };
 
-    // The difference between what both models have under one printed form, or none where it is the same.
+    // The difference between what both models have under one printed form, or none where it is the
+    // same.
     fn tell_both(
         &self,
         user: &Self,
@@ -68,7 +70,9 @@ fn told_at<K, T: Told<K>>(
 ) -> Result<Option<Difference>, NoMemory>
     requires planner_within { IsWithin spots.planner planner.now }
     requires user_within { IsWithin spots.user user.now }
-    ensures ok { IfOk result (λ told. option_to_list told ≡ spots_told (T.alone kind.now) (T.both kind.now) planner.now user.now spots.planner spots.user) }
+    ensures ok { IfOk result (λ told. option_to_list told
+        ≡ spots_told (T.alone kind.now) (T.both kind.now) planner.now user.now spots.planner
+        spots.user) }
 {
     match spots.planner {
         Some(i) => match spots.user {
@@ -93,7 +97,8 @@ fn tell_row<K, T: Told<K>>(
 ) -> Result<(), NoMemory>
     requires planner_within { IsWithin row.now.spots.planner planner.now }
     requires user_within { IsWithin row.now.spots.user user.now }
-    ensures ok { OnOk result (Grows gathered.old gathered.new (row_told (T.alone kind.now) (T.both kind.now) planner.now user.now row.now)) }
+    ensures ok { OnOk result (Grows gathered.old gathered.new
+        (row_told (T.alone kind.now) (T.both kind.now) planner.now user.now row.now)) }
 {
     match told_at::<K, T>(alloc, kind, planner, user, row.spots)? {
         Some(difference) => gathered.add(difference),
@@ -111,7 +116,8 @@ fn tell_rows<K, T: Told<K>>(
     gathered: &mut Gathered,
 ) -> Result<(), NoMemory>
     requires { All (AreWithin planner.now user.now) rows.now }
-    ensures ok { OnOk result (Grows gathered.old gathered.new (flat_map (row_told (T.alone kind.now) (T.both kind.now) planner.now user.now) rows.now)) }
+    ensures ok { OnOk result (Grows gathered.old gathered.new
+        (flat_map (row_told (T.alone kind.now) (T.both kind.now) planner.now user.now) rows.now)) }
 {
     for place in 0..rows.len() {
         tell_row::<K, T>(alloc, kind, planner, user, rows.item(place), gathered)?;
@@ -130,7 +136,8 @@ pub(crate) fn tell<K, T: Told<K>>(
 ) -> Result<(), NoMemory>
     requires planner_fits { All (T.Fits words.now) planner.now }
     requires user_fits { All (T.Fits words.now) user.now }
-    ensures ok { OnOk result (AllTold (T.alone kind.now) (T.both kind.now) (T.form words.now) planner.now user.now gathered.old gathered.new) }
+    ensures ok { OnOk result (AllTold (T.alone kind.now) (T.both kind.now) (T.form words.now)
+        planner.now user.now gathered.old gathered.new) }
 {
     let planner_forms = forms::<K, T>(alloc, words, planner)?;
     let user_forms = forms::<K, T>(alloc, words, user)?;

@@ -23,7 +23,8 @@ pub(crate) fn tell_values(
     gathered: &mut Gathered,
 ) -> Result<(), NoMemory>
     requires joint { user.now.words ≡ planner.now.words }
-    ensures ok { OnOk result (GainsGroup planner.now user.now (2 + 5 * length planner.now.words.actions) gathered.old gathered.new) }
+    ensures ok { OnOk result (GainsGroup planner.now user.now
+        (2 + 5 * length planner.now.words.actions) gathered.old gathered.new) }
 {
     tell::<Worths, (u32, List<u32>, u32)>(
         alloc,

@@ -11,8 +11,10 @@ use Rattle.pair_rules.specs.Ruled.{models_of}
 use Rattle.ground_core.specs.declared.table.Ground.{Ground}
 use Rattle.ground_core.specs.Stops.{ManyAtoms, ManyActions}
 
--- the table is that of what may be reached, each under its printed form, and the differences are those of the list; that the forms ascend is said by the type of the names
-pub record IsGroundOf (planner user : Model) (differences : List Difference) (ground : Ground) : Type 0 where
+-- the table is that of what may be reached, each under its printed form, and the differences are
+-- those of the list; that the forms ascend is said by the type of the names
+pub record IsGroundOf (planner user : Model) (differences : List Difference)
+    (ground : Ground) : Type 0 where
   pub atoms : List GroundAtom
   pub actions : List GroundAction
   pub reachable : ListsReachable (models_of planner user differences) atoms actions
@@ -23,4 +25,5 @@ pub record IsGroundOf (planner user : Model) (differences : List Difference) (gr
 
 -- more may be reached than a table may list
 abbrev pub IsFull : Model → Model → List Difference → Type 0
-IsFull planner user differences = ManyAtoms planner user differences ⊎ ManyActions planner user differences
+IsFull planner user differences =
+    ManyAtoms planner user differences ⊎ ManyActions planner user differences

@@ -12,5 +12,8 @@ use Rattle.ground_core.specs.Names.{AreNamed}
 -- the numbers by the names are those of the listed actions
 abbrev pub PlanLaw : Type 0
 PlanLaw =
-    (planner user : Model) (differences : List Difference) (ground : Ground) (is : IsGroundOf planner user differences ground) (numbers : List ℕ) (plan : List GroundAction) → All (IsGroundAction planner.words) plan →
-    AreNamed planner.words ground.names.actions.items numbers plan → AreNumbersOf is.actions numbers plan
+    (planner user : Model) (differences : List Difference) (ground : Ground)
+    (is : IsGroundOf planner user differences ground) (numbers : List ℕ)
+    (plan : List GroundAction) → All (IsGroundAction planner.words) plan →
+    AreNamed planner.words ground.names.actions.items numbers plan
+    → AreNumbersOf is.actions numbers plan

@@ -1,5 +1,6 @@
 -- The printed forms of what a table lists, and the numbers of a plan's steps by them.
-use Rattle.std.specs.Prelude.{ℕ, ◌≡◌, ◌≤◌, List, [], ◌∷◌, Some, length, slice_get, All, AllPairs, Contains}
+use Rattle.std.specs.Prelude.{ℕ, ◌≡◌, ◌≤◌, List, [], ◌∷◌, Some, length, slice_get, All, AllPairs}
+use Rattle.std.specs.Prelude.{Contains}
 use Rattle.model_kit.specs.declared.vocabulary.Vocabulary.{Vocabulary}
 use Rattle.model_kit.specs.declared.action.GroundAction.{GroundAction}
 use Rattle.model_kit.specs.Differences.{IsPrintedBefore}
@@ -15,7 +16,8 @@ pub record AreNames (atoms actions : List (List ℕ)) : Type 0 where
 -- the numbers are those of the printed forms of a plan's steps
 abbrev pub AreNamed : Vocabulary → List (List ℕ) → List ℕ → List GroundAction → Type 0
 AreNamed words names [] [] = Unit {0}
-AreNamed words names (number ∷ numbers) (step ∷ steps) = (slice_get names number ≡ Some (action_form words step)) × AreNamed words names numbers steps
+AreNamed words names (number ∷ numbers) (step ∷ steps) =
+    (slice_get names number ≡ Some (action_form words step)) × AreNamed words names numbers steps
 AreNamed words names [] (step ∷ steps) = ⊥
 AreNamed words names (number ∷ numbers) [] = ⊥
 
@@ -24,4 +26,5 @@ abbrev pub AreListed : Vocabulary → List (List ℕ) → List GroundAction → 
 AreListed words names steps = All (λ step. Contains names (action_form words step)) steps
 
 abbrev pub IsUnlisted : Vocabulary → List (List ℕ) → List GroundAction → Type 0
-IsUnlisted words names steps = (step : GroundAction) × Contains steps step × (¬ Contains names (action_form words step))
+IsUnlisted words names steps =
+    (step : GroundAction) × Contains steps step × (¬ Contains names (action_form words step))

@@ -7,8 +7,10 @@ use Rattle.model_kit.specs.Differences.{IsPrintedBefore}
 use Rattle.ground_core.specs.declared.ordering.InOrder.{InOrder}
 
 -- the map has each of the first things under its printed form, and no other
-pub record IsIndexOf {X : Type 0} (form : X → List ℕ) (count : ℕ) (IsThere : X → Type 0) (index : BTreeMap (List ℕ) X) : Type 0 where
-  pub each : (name : List ℕ) (x : X) → get (slice_cmp nat_cmp) index name ≡ Some x → IsThere x × (form x ≡ name)
+pub record IsIndexOf {X : Type 0} (form : X → List ℕ) (count : ℕ) (IsThere : X → Type 0)
+    (index : BTreeMap (List ℕ) X) : Type 0 where
+  pub each : (name : List ℕ) (x : X) → get (slice_cmp nat_cmp) index name ≡ Some x
+      → IsThere x × (form x ≡ name)
   pub all : (x : X) → IsThere x → get (slice_cmp nat_cmp) index (form x) ≡ Some x
   pub few : length index.entries ≤ count
 
@@ -22,7 +24,8 @@ pub record IsLaidOut {X : Type 0} (index : BTreeMap (List ℕ) X) (made : InOrde
   pub ordered : IsOrdered (slice_cmp nat_cmp) index
 
 -- the same things, with their printed forms, in ASCII order
-pub record IsInOrder {X : Type 0} (form : X → List ℕ) (things : List X) (made : InOrder X) : Type 0 where
+pub record IsInOrder {X : Type 0} (form : X → List ℕ) (things : List X)
+    (made : InOrder X) : Type 0 where
   pub named : made.names.items ≡ map form made.things
   pub ascend : AllPairs IsPrintedBefore made.names.items
   pub same : (x : X) → Contains made.things x ↔ Contains things x

@@ -9,7 +9,8 @@ use Rattle.named_tables.specs.Reachable.{Reachable, Atom, Action}
 use Rattle.pair_rules.specs.Ruled.{models_of}
 use Rattle.std.specs.Prelude.{List}
 use Rattle.ground_core.specs.declared.stop.GroundStop.{GroundStop}
-use Rattle.ground_core.specs.declared.stop.GroundStop.TheVariants.{TooManyActions, TooManyAtoms, NoMemory}
+use Rattle.ground_core.specs.declared.stop.GroundStop.TheVariants.{TooManyActions, TooManyAtoms}
+use Rattle.ground_core.specs.declared.stop.GroundStop.TheVariants.{NoMemory}
 
 abbrev pub no_memory : GroundStop
 no_memory = NoMemory
@@ -21,13 +22,17 @@ stop_of reached.NoMemory = NoMemory
 
 -- more atoms than 4,096 may be reached, more actions than 50,000
 abbrev pub ManyAtoms : Model → Model → List Difference → Type 0
-ManyAtoms planner user differences = MoreThan 4096 (λ atom. Reachable (models_of planner user differences) (Atom atom))
+ManyAtoms planner user differences =
+    MoreThan 4096 (λ atom. Reachable (models_of planner user differences) (Atom atom))
 
 abbrev pub ManyActions : Model → Model → List Difference → Type 0
-ManyActions planner user differences = MoreThan 50000 (λ action. Reachable (models_of planner user differences) (Action action))
+ManyActions planner user differences =
+    MoreThan 50000 (λ action. Reachable (models_of planner user differences) (Action action))
 
 -- the limit is told that is passed; only want of memory needs no cause
 abbrev pub Exceeds : Model → Model → List Difference → GroundStop → Type 0
-Exceeds planner user differences (TooManyAtoms limit) = (limit ≡ 4096) × ManyAtoms planner user differences
-Exceeds planner user differences (TooManyActions limit) = (limit ≡ 50000) × ManyActions planner user differences
+Exceeds planner user differences (TooManyAtoms limit) =
+    (limit ≡ 4096) × ManyAtoms planner user differences
+Exceeds planner user differences (TooManyActions limit) =
+    (limit ≡ 50000) × ManyActions planner user differences
 Exceeds planner user differences NoMemory = ⊤

@@ -1,4 +1,5 @@
-//! Grounding: the table of two models over all that may be reached in them, numbered in the order of printed forms.
+//! Grounding: the table of two models over all that may be reached in them, numbered in the order
+//! of printed forms.
 #![tactic(auto)]
 
 mod grounding;

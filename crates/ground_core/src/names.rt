@@ -1,4 +1,5 @@
-ghost use Rattle.std.specs.Prelude.{◌≡◌, ◌<◌, length, slice_get, Some, Contains, MatchOption, All, IsTrue, IfOk};
+ghost use Rattle.std.specs.Prelude.{◌≡◌, ◌<◌, length, slice_get, Some, Contains, MatchOption, All};
+ghost use Rattle.std.specs.Prelude.{IsTrue, IfOk};
 ghost use Rattle.model_kit.specs.Printed.{action_form};
 ghost use Rattle.model_kit.specs.Vocabulary.{IsGroundAction};
 ghost use Rattle.ground_core.specs.Names.{AreNames, AreNamed, IsUnlisted, AreListed};
@@ -7,7 +8,8 @@ use model_kit::{Plan, Vocabulary, print_action};
 use mre_base::{List, NoMemory, Text};
 use std::alloc::Global;
 
-/// The printed forms of the atoms and of the ground actions of a table, by their numbers, which are those of ASCII order.
+/// The printed forms of the atoms and of the ground actions of a table, by their numbers, which are
+/// those of ASCII order.
 pub struct NameTable {
     pub(crate) atoms: Vec<Text>,
     pub(crate) actions: Vec<Text>,
@@ -73,7 +75,8 @@ impl NameTable {
         plan: &Plan,
     ) -> Result<Option<List<u32>>, NoMemory>
         requires fits { All (IsGroundAction words.now) plan.now.steps }
-        ensures ok { IfOk result (λ found. MatchOption found (IsUnlisted words.now self.now.actions.items plan.now.steps)
+        ensures ok { IfOk result (λ found. MatchOption found
+            (IsUnlisted words.now self.now.actions.items plan.now.steps)
             (λ numbers. AreNamed words.now self.now.actions.items numbers plan.now.steps)) }
     {
         let mut numbers = List::empty(alloc);
@@ -96,7 +99,8 @@ impl NameTable {
     ) -> Result<List<u32>, NoMemory>
         requires fits { All (IsGroundAction words.now) plan.now.steps }
         requires listed { AreListed words.now self.now.actions.items plan.now.steps }
-        ensures ok { IfOk result (λ numbers. AreNamed words.now self.now.actions.items numbers plan.now.steps) }
+        ensures ok { IfOk result (λ numbers. AreNamed words.now self.now.actions.items numbers
+            plan.now.steps) }
     {
         match self.find_plan(alloc, words, plan)? {
             Some(numbers) => Ok(numbers),

@@ -1,7 +1,8 @@
 use crate::NameTable;
 use case_kit::CaseTable;
 
-/// The table of two models over all that may be reached in them, and the printed forms of what it lists.
+/// The table of two models over all that may be reached in them, and the printed forms of what it
+/// lists.
 pub struct Ground {
     pub table: CaseTable,
     pub names: NameTable,

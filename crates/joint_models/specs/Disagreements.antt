@@ -1,5 +1,7 @@
--- What two vocabularies have under a name, where they disagree, and which disagreement is the first.
-use Rattle.std.specs.Prelude.{ℕ, ◌≡◌, ◌≢◌, ◌<◌, Bool, true, false, List, [], ◌++◌, map, Option, None, Some, Result, Ok, Err, codes, if◌then◌else◌}
+-- What two vocabularies have under a name, where they disagree, and which disagreement is the
+-- first.
+use Rattle.std.specs.Prelude.{ℕ, ◌≡◌, ◌≢◌, ◌<◌, Bool, true, false, List, [], ◌++◌, map, Option}
+use Rattle.std.specs.Prelude.{None, Some, Result, Ok, Err, codes, if◌then◌else◌}
 use Rattle.std.specs.List.{join_with_byte}
 use Rattle.std.specs.Option.{option_map}
 use Rattle.model_kit.specs.declared.vocabulary.Vocabulary.{Vocabulary}
@@ -7,13 +9,15 @@ use Rattle.model_kit.specs.declared.vocabulary.Signature.{Signature}
 use Rattle.model_kit.specs.Pairs.{type_name}
 use Rattle.model_kit.specs.Differences.{IsPrintedBefore}
 use Rattle.joint_models.specs.declared.group.Group.{Group}
-use Rattle.joint_models.specs.declared.group.Group.TheVariants.{Types, Objects, Actions, Predicates, Functions}
+use Rattle.joint_models.specs.declared.group.Group.TheVariants.{Types, Objects, Actions, Predicates}
+use Rattle.joint_models.specs.declared.group.Group.TheVariants.{Functions}
 use Rattle.joint_models.specs.declared.stop.PairFault.{PairFault}
 use Rattle.joint_models.specs.declared.stop.PairStop.{PairStop}
 use Rattle.joint_models.specs.declared.stop.PairStop.TheVariants.{Differs, NoMemory}
 use Rattle.joint_models.specs.Listed.{typed_entry, entry_named}
 
--- the entries of a group, each with its name and the numbers of types: a parent, an object's type, or those of the parameters
+-- the entries of a group, each with its name and the numbers of types: a parent, an object's type,
+-- or those of the parameters
 abbrev pub entries_in : Group → Vocabulary → List Signature
 entries_in Types words = map typed_entry words.types
 entries_in Objects words = map typed_entry words.objects
@@ -23,7 +27,8 @@ entries_in Functions words = words.functions
 
 -- the names of the types that a vocabulary has under a name, if it has the name
 abbrev pub has : Group → Vocabulary → List ℕ → Option (List (List ℕ))
-has group words name = option_map (λ s. map (type_name words) s.params) (entry_named (entries_in group words) name)
+has group words name =
+    option_map (λ s. map (type_name words) s.params) (entry_named (entries_in group words) name)
 
 -- models that agree have the same types and the same objects
 abbrev pub is_shared : Group → Bool
@@ -33,7 +38,8 @@ is_shared Actions = false
 is_shared Predicates = false
 is_shared Functions = false
 
--- what two vocabularies have under a name is the same; where one alone may have the name, this is asked where both have it
+-- what two vocabularies have under a name is the same; where one alone may have the name, this is
+-- asked where both have it
 abbrev pub AreAlike : Bool → Option (List (List ℕ)) → Option (List (List ℕ)) → Type 0
 AreAlike true one two = one ≡ two
 AreAlike false (Some one) (Some two) = one ≡ two
@@ -42,7 +48,8 @@ AreAlike false None two = Unit {0}
 
 -- two vocabularies disagree about a name of a group
 abbrev pub Disagree : Group → Vocabulary → Vocabulary → List ℕ → Type 0
-Disagree group planner user name = ¬ AreAlike (is_shared group) (has group planner name) (has group user name)
+Disagree group planner user name =
+    ¬ AreAlike (is_shared group) (has group planner name) (has group user name)
 
 -- two vocabularies disagree about no name of a group
 abbrev pub AgreeIn : Group → Vocabulary → Vocabulary → Type 0
@@ -72,10 +79,12 @@ opening group = (if is_shared group then codes " - " else codes " (")
 abbrev pub closing : Group → List ℕ
 closing group = (if is_shared group then [] else codes ")")
 
--- `type NAME - PARENT`, `object NAME - TYPE`, `action NAME (T1 T2)` and so on, with one blank between types; `none` where nothing has the name
+-- `type NAME - PARENT`, `object NAME - TYPE`, `action NAME (T1 T2)` and so on, with one blank
+-- between types; `none` where nothing has the name
 abbrev pub spelled : Group → List ℕ → Option (List (List ℕ)) → List ℕ
 spelled group name None = codes "none"
-spelled group name (Some types) = word_of group ++ name ++ opening group ++ join_with_byte 32 types ++ closing group
+spelled group name (Some types) =
+    word_of group ++ name ++ opening group ++ join_with_byte 32 types ++ closing group
 
 -- of the names with a property this comes first in ASCII order
 pub record IsEarliest (Property : List ℕ → Type 0) (name : List ℕ) : Type 0 where
@@ -89,11 +98,13 @@ pub record IsFirstIn (group : Group) (planner user : Vocabulary) (fault : PairFa
   pub planner_is : fault.planner ≡ spelled group name (has group planner name)
   pub user_is : fault.user ≡ spelled group name (has group user name)
 
--- the first disagreement of two vocabularies: it is the first of its group, and there is none in a group before
+-- the first disagreement of two vocabularies: it is the first of its group, and there is none in a
+-- group before
 pub record IsFirstDisagreement (planner user : Vocabulary) (fault : PairFault) : Type 0 where
   pub group : Group
   pub first : IsFirstIn group planner user fault
-  pub none_before : (before : Group) → place_of before < place_of group → AgreeIn before planner user
+  pub none_before : (before : Group) → place_of before < place_of group
+      → AgreeIn before planner user
 
 -- what holds of the disagreement that is told
 abbrev pub IfDiffers : {X : Type 0} → Result X PairStop → (PairFault → Type 0) → Type 0

@@ -15,4 +15,6 @@ entry_named entries name = slice_get entries (number_of (names entries) name)
 
 -- the map has the number of each name
 abbrev pub ArePlaces : {A : Type 0} → List Signature → BTreeMap (String A) ℕ → Type 0
-ArePlaces entries places = (name : List ℕ) → unwrap_or (get_by_text places name) (length entries) ≡ number_of (names entries) name
+ArePlaces entries places =
+    (name : List ℕ) → unwrap_or (get_by_text places name) (length entries)
+    ≡ number_of (names entries) name

@@ -2,7 +2,8 @@
 use Rattle.std.specs.Prelude.{◌≡◌}
 use Rattle.model_kit.specs.declared.vocabulary.Vocabulary.{Vocabulary}
 use Rattle.joint_models.specs.declared.group.Group.{Group}
-use Rattle.joint_models.specs.declared.group.Group.TheVariants.{Types, Objects, Actions, Predicates, Functions}
+use Rattle.joint_models.specs.declared.group.Group.TheVariants.{Types, Objects, Actions, Predicates}
+use Rattle.joint_models.specs.declared.group.Group.TheVariants.{Functions}
 use Rattle.joint_models.specs.declared.listed.Listed.{Listed}
 use Rattle.joint_models.specs.declared.lists.Lists.{Lists}
 use Rattle.joint_models.specs.Disagreements.{entries_in}

@@ -1,5 +1,6 @@
 -- How the first disagreement is looked for.
-use Rattle.std.specs.Prelude.{ℕ, Bool, List, ◌++◌, Option, None, Some, Contains, MatchOption, if◌then◌else◌}
+use Rattle.std.specs.Prelude.{ℕ, Bool, List, ◌++◌, Option, None, Some, Contains, MatchOption}
+use Rattle.std.specs.Prelude.{if◌then◌else◌}
 use Rattle.std.specs.Cmp.Lexicographic.{pointwise, slice_cmp}
 use Rattle.std.specs.Ordering.{nat_cmp, is_lt}
 use Rattle.model_kit.specs.declared.vocabulary.Vocabulary.{Vocabulary}
@@ -26,8 +27,11 @@ SeenWith Property seen name = Contains seen name × Property name
 
 -- the first of those that were seen and have the property, if there is one
 abbrev pub IsFirstSeen : (List ℕ → Type 0) → List (List ℕ) → Option (List ℕ) → Type 0
-IsFirstSeen Property seen least = IsFound ((name : List ℕ) → ¬ SeenWith Property seen name) (SeenWith Property seen) least
+IsFirstSeen Property seen least =
+    IsFound ((name : List ℕ) → ¬ SeenWith Property seen name) (SeenWith Property seen) least
 
 -- the search goes on from what was found before over further names
 abbrev pub GoesOn : (List ℕ → Type 0) → List (List ℕ) → Option (List ℕ) → Option (List ℕ) → Type 0
-GoesOn Property further before after = (seen : List (List ℕ)) → IsFirstSeen Property seen before → IsFirstSeen Property (seen ++ further) after
+GoesOn Property further before after =
+    (seen : List (List ℕ)) → IsFirstSeen Property seen before
+    → IsFirstSeen Property (seen ++ further) after

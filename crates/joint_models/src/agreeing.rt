@@ -1,7 +1,8 @@
 ghost use Rattle.std.specs.Prelude.{◌≡◌, ◌↔◌, IsTrue, IfOk, OnOk};
 ghost use Rattle.model_kit.specs.Pairs.{Agree, names};
 ghost use Rattle.joint_models.specs.Lists.{AreListsOf};
-ghost use Rattle.joint_models.specs.Disagreements.{has, Disagree, AgreeIn, IsFirstIn, IsFirstDisagreement, IfDiffers, spelled};
+ghost use Rattle.joint_models.specs.Disagreements.{has, Disagree, AgreeIn, IsFirstIn};
+ghost use Rattle.joint_models.specs.Disagreements.{IsFirstDisagreement, IfDiffers, spelled};
 ghost use Rattle.joint_models.specs.Searching.{have_same_types, earlier_of, GoesOn, IsFound};
 
 use crate::group::Group;
@@ -62,7 +63,8 @@ fn compare(alloc: Global, group: Group, planner: Side<'_>, user: Side<'_>) -> Re
     requires planner_are { AreListsOf planner.words.now planner.lists.now }
     requires user_are { AreListsOf user.words.now user.lists.now }
     ensures ok { OnOk result (AgreeIn group planner.entry.words.now user.entry.words.now) }
-    ensures differs { IfDiffers result (IsFirstIn group planner.entry.words.now user.entry.words.now) }
+    ensures differs { IfDiffers result (IsFirstIn group planner.entry.words.now
+        user.entry.words.now) }
 {
     match earliest(alloc, group, planner, user)? {
         Some(name) => {
@@ -77,7 +79,8 @@ fn compare(alloc: Global, group: Group, planner: Side<'_>, user: Side<'_>) -> Re
 // What a vocabulary has under a name, or `none`.
 fn spell_named(alloc: Global, group: Group, side: Side<'_>, name: &Text) -> Result<Text, NoMemory>
     requires { AreListsOf side.words.now side.lists.now }
-    ensures ok { IfOk result (λ text. text ≡ spelled group name.now (has group side.entry.words.now name.now)) }
+    ensures ok { IfOk result (λ text. text
+        ≡ spelled group name.now (has group side.entry.words.now name.now)) }
 {
     match side.lists.group(group).entry(name) {
         Some(entry) => spell(alloc, group, side.words, entry),
@@ -94,7 +97,8 @@ fn earliest(
 ) -> Result<Option<Text>, NoMemory>
     requires planner_are { AreListsOf planner.words.now planner.lists.now }
     requires user_are { AreListsOf user.words.now user.lists.now }
-    ensures ok { IfOk result (IsFound (AgreeIn group planner.entry.words.now user.entry.words.now) (Disagree group planner.entry.words.now user.entry.words.now)) }
+    ensures ok { IfOk result (IsFound (AgreeIn group planner.entry.words.now user.entry.words.now)
+        (Disagree group planner.entry.words.now user.entry.words.now)) }
 {
     let first = earlier_among(
         alloc,
@@ -125,7 +129,8 @@ fn earlier_among(
 ) -> Result<Option<Text>, NoMemory>
     requires planner_are { AreListsOf planner.words.now planner.lists.now }
     requires user_are { AreListsOf user.words.now user.lists.now }
-    ensures ok { IfOk result (GoesOn (Disagree group planner.entry.words.now user.entry.words.now) (names among.now) before) }
+    ensures ok { IfOk result (GoesOn (Disagree group planner.entry.words.now user.entry.words.now)
+        (names among.now) before) }
 {
     let mut least = before;
     for place in 0..among.len() {

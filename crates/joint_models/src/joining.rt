@@ -25,7 +25,8 @@ pub struct JointModels {
 pub fn join_models(alloc: Global, planner: Model, user: Model) -> Result<JointModels, PairStop>
     requires planner_whole { planner.unknown ≡ [] }
     requires user_whole { user.unknown ≡ [] }
-    ensures ok { IfOk result (λ joint. ArePaired planner user joint.planner.words joint.planner joint.user) }
+    ensures ok { IfOk result (λ joint. ArePaired planner user joint.planner.words joint.planner
+        joint.user) }
     ensures differs { IfDiffers result (IsFirstDisagreement planner.words user.words) }
     ensures disagree { IfDiffers result (λ fault. ¬ Agree planner.words user.words) }
 {
@@ -54,7 +55,8 @@ fn joined(
     requires user_whole { user.now.unknown ≡ [] }
     requires planner_are { AreListsOf planner.now.words planner_lists.now }
     requires user_are { AreListsOf user.now.words user_lists.now }
-    ensures ok { IfOk result (λ joint. ArePaired planner.now user.now joint.planner.words joint.planner joint.user) }
+    ensures ok { IfOk result (λ joint. ArePaired planner.now user.now joint.planner.words
+        joint.planner joint.user) }
     ensures differs { IfDiffers result (λ fault. ⊥) }
 {
     let words = joint_words(

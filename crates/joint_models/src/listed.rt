@@ -1,4 +1,5 @@
-ghost use Rattle.std.specs.Prelude.{◌≡◌, ◌<◌, ◌↔◌, length, map, IsTrue, IfOk, MatchOption, None, Some};
+ghost use Rattle.std.specs.Prelude.{◌≡◌, ◌<◌, ◌↔◌, length, map, IsTrue, IfOk, MatchOption, None};
+ghost use Rattle.std.specs.Prelude.{Some};
 ghost use Rattle.model_kit.specs.Pairs.{number_of, names, is_named};
 ghost use Rattle.joint_models.specs.Listed.{ArePlaces, typed_entry, entry_named};
 
@@ -53,7 +54,8 @@ impl Listed {
 
     /// The entry with a name.
     pub(crate) fn entry(&self, name: &Text) -> Option<&Signature>
-        ensures { MatchOption result (entry_named self.now.entries name.now ≡ None) (λ s. entry_named self.now.entries name.now ≡ Some s.now) }
+        ensures { MatchOption result (entry_named self.now.entries name.now ≡ None)
+            (λ s. entry_named self.now.entries name.now ≡ Some s.now) }
     {
         let number = self.number(name);
         if number < self.entries.len() {

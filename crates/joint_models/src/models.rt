@@ -1,6 +1,7 @@
 ghost use Rattle.std.specs.Prelude.{◌≡◌, ◌<◌, ◌||◌, length, IsTrue, IfOk};
 ghost use Rattle.model_kit.specs.Pairs.{is_named, IsModelIn};
-ghost use Rattle.joint_models.specs.Renaming.{IsPartOf, IsSchemaFor, AreSchemasFor, unknown_among, HasAll};
+ghost use Rattle.joint_models.specs.Renaming.{IsPartOf, IsSchemaFor, AreSchemasFor, unknown_among};
+ghost use Rattle.joint_models.specs.Renaming.{HasAll};
 
 use crate::listed::Listed;
 use crate::lists::Lists;
@@ -27,7 +28,8 @@ pub(crate) fn model_in(
 ) -> Result<Model, NoMemory>
     requires own_is { IsPartOf words own.model.now own.lists.now own.numbers.now }
     requires other_is { IsPartOf words other.model.now other.lists.now other.numbers.now }
-    requires known { HasAll own.model.now.words.actions other.model.now.words.actions words.actions }
+    requires known { HasAll own.model.now.words.actions other.model.now.words.actions
+        words.actions }
     ensures ok { IfOk result (IsModelIn words own.entry.model.now other.entry.model.now) }
 {
     let init = rename_atoms(alloc, own.numbers, &own.model.init)?;
@@ -45,7 +47,8 @@ pub(crate) fn model_in(
     })
 }
 
-// The schemas of actions by their names: a model's own where it has the action, and else the other's.
+// The schemas of actions by their names: a model's own where it has the action, and else the
+// other's.
 fn schemas_for(
     alloc: Global,
     actions: &List<Signature>,
@@ -55,7 +58,8 @@ fn schemas_for(
     requires own_are { own.lists.now.actions.entries ≡ own.model.now.words.actions }
     requires other_are { other.lists.now.actions.entries ≡ other.model.now.words.actions }
     requires known { HasAll own.model.now.words.actions other.model.now.words.actions actions.now }
-    ensures ok { IfOk result (AreSchemasFor own.entry.model.now own.entry.numbers.now other.entry.model.now other.entry.numbers.now actions.now) }
+    ensures ok { IfOk result (AreSchemasFor own.entry.model.now own.entry.numbers.now
+        other.entry.model.now other.entry.numbers.now actions.now) }
 {
     let mut schemas = List::empty(alloc);
     for place in 0..actions.len() {
@@ -74,8 +78,10 @@ fn schema_for(
 ) -> Result<Schema, NoMemory>
     requires own_are { own.lists.now.actions.entries ≡ own.model.now.words.actions }
     requires other_are { other.lists.now.actions.entries ≡ other.model.now.words.actions }
-    requires known { IsTrue (is_named own.model.now.words.actions name.now || is_named other.model.now.words.actions name.now) }
-    ensures ok { IfOk result (IsSchemaFor own.entry.model.now own.entry.numbers.now other.entry.model.now other.entry.numbers.now name.now) }
+    requires known { IsTrue (is_named own.model.now.words.actions name.now
+        || is_named other.model.now.words.actions name.now) }
+    ensures ok { IfOk result (IsSchemaFor own.entry.model.now own.entry.numbers.now
+        other.entry.model.now other.entry.numbers.now name.now) }
 {
     let number = own.lists.actions.number(name);
     if number < own.model.schemas.len() {
@@ -85,7 +91,8 @@ fn schema_for(
     rename_schema(alloc, other.numbers, other.model.schemas.item(number))
 }
 
-// The numbers of the actions that a list lacks. Memory has no room for more numbers than 32 bits give.
+// The numbers of the actions that a list lacks. Memory has no room for more numbers than 32 bits
+// give.
 fn unknown_among(
     alloc: Global,
     known: &Listed,

@@ -37,7 +37,8 @@ impl Numbers {
     }
 }
 
-/// The numbers of the names of a list among other entries. Memory has no room for more numbers than 32 bits give.
+/// The numbers of the names of a list among other entries. Memory has no room for more numbers than
+/// 32 bits give.
 pub(crate) fn numbers_between(
     alloc: Global,
     from: &List<Signature>,

@@ -1,5 +1,6 @@
 ghost use Rattle.std.specs.Prelude.{◌≡◌, map, IfOk};
-ghost use Rattle.joint_models.specs.Renaming.{atom_by, term_by, schema_atom_by, cost_by, schema_by, value_by};
+ghost use Rattle.joint_models.specs.Renaming.{atom_by, term_by, schema_atom_by, cost_by, schema_by};
+ghost use Rattle.joint_models.specs.Renaming.{value_by};
 
 use crate::numbers::{Numbers, number_at, numbers_at};
 use model_kit::{CostExpr, GroundAtom, Schema, SchemaAtom, Term};

@@ -27,7 +27,8 @@ pub(crate) fn spell(
     words: &Vocabulary,
     entry: &Signature,
 ) -> Result<Text, NoMemory>
-    ensures ok { IfOk result (λ text. text ≡ spelled group entry.now.name (Some (map (type_name words.now) entry.now.params))) }
+    ensures ok { IfOk result (λ text. text
+        ≡ spelled group entry.now.name (Some (map (type_name words.now) entry.now.params))) }
 {
     let mut text = String::from_str(alloc, group.word())?;
     text.push_str(entry.name.as_str())?;
@@ -39,7 +40,8 @@ pub(crate) fn spell(
 
 // Puts the names of types at the end, with a blank between any two.
 fn push_types(text: &mut String, words: &Vocabulary, types: &List<u32>) -> Result<(), NoMemory>
-    ensures ok { OnOk result (string_bytes text.new ≡ string_bytes text.old ++ join_with_byte 32 (map (type_name words.now) types.now)) }
+    ensures ok { OnOk result (string_bytes text.new ≡ string_bytes text.old
+        ++ join_with_byte 32 (map (type_name words.now) types.now)) }
 {
     for place in 0..types.len() {
         if place > 0 {

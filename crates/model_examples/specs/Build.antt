@@ -40,4 +40,5 @@ step schema = act schema []
 
 -- the schema that needs some atoms, adds one and costs a number
 abbrev pub plain : List ℕ → ℕ → ℕ → Schema
-plain pre add price = record { pre = map bare pre; add = bare add ∷ []; del = []; cost = Number price }
+plain pre add price =
+    record { pre = map bare pre; add = bare add ∷ []; del = []; cost = Number price }

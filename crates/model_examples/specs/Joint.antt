@@ -18,7 +18,8 @@ planner_words = record {
   sound = refl;
 }
 
--- objects 0 b, 1 a; predicates 0 (g), 1 (q), 2 (p ?1); functions 0 (fee), 1 (toll ?1); actions 0 (jump), 1 (walk ?1)
+-- objects 0 b, 1 a; predicates 0 (g), 1 (q), 2 (p ?1); functions 0 (fee), 1 (toll ?1); actions 0
+-- (jump), 1 (walk ?1)
 abbrev pub user_words : Vocabulary
 user_words = record {
   types = one_type;
@@ -40,9 +41,17 @@ words = record {
   sound = refl;
 }
 
--- the schema of walk by the numbers of (p ?1), (g) and (toll ?1), and that of jump by those of (q), (g) and (fee)
+-- the schema of walk by the numbers of (p ?1), (g) and (toll ?1), and that of jump by those of (q),
+-- (g) and (fee)
 abbrev pub walk : ℕ → ℕ → ℕ → Schema
-walk p g toll = record { pre = atom p (Param 0 ∷ []) ∷ []; add = bare g ∷ []; del = []; cost = Call toll (Param 0 ∷ []) }
+walk p g toll =
+    record {
+      pre = atom p (Param 0 ∷ []) ∷ [];
+      add = bare g ∷ [];
+      del = [];
+      cost = Call toll
+          (Param 0 ∷ []);
+    }
 
 abbrev pub jump : ℕ → ℕ → ℕ → Schema
 jump q g fee = record { pre = bare q ∷ []; add = bare g ∷ []; del = []; cost = Call fee [] }

@@ -11,12 +11,15 @@ use Rattle.model_kit.specs.Explanations.{Task}
 use Rattle.model_kit.specs.Laws.{task_of}
 use Rattle.model_examples.specs.Build.{word, one_type, fact, facts, atom, bare, step}
 
--- objects 0 a, 1 b; predicates 0 (p ?1), 1 (q ?1), 2 (g), 3 (h); function 0 (toll ?1); actions 0 (use ?1), 1 (rest), 2 (wait)
+-- objects 0 a, 1 b; predicates 0 (p ?1), 1 (q ?1), 2 (g), 3 (h); function 0 (toll ?1); actions 0
+-- (use ?1), 1 (rest), 2 (wait)
 abbrev pub words : Vocabulary
 words = record {
   types = one_type;
   objects = (codes "a", 0) ∷ (codes "b", 0) ∷ [];
-  predicates = word (codes "p") (0 ∷ []) ∷ word (codes "q") (0 ∷ []) ∷ word (codes "g") [] ∷ word (codes "h") [] ∷ [];
+  predicates =
+      word (codes "p") (0 ∷ []) ∷ word (codes "q") (0 ∷ []) ∷ word (codes "g") [] ∷ word (codes "h")
+      [] ∷ [];
   functions = word (codes "toll") (0 ∷ []) ∷ [];
   actions = word (codes "use") (0 ∷ []) ∷ word (codes "rest") [] ∷ word (codes "wait") [] ∷ [];
   sound = refl;
@@ -35,7 +38,14 @@ planner = record {
   words = words;
   init = fact 0 (0 ∷ []) ∷ [];
   goal = facts (2 ∷ []);
-  schemas = record { pre = its 0 ∷ []; add = bare 2 ∷ []; del = its 0 ∷ []; cost = Number 3 } ∷ idle ∷ idle ∷ [];
+  schemas =
+      record {
+        pre = its 0 ∷ [];
+        add = bare 2 ∷ [];
+        del = its 0 ∷ [];
+        cost = Number
+            3;
+      } ∷ idle ∷ idle ∷ [];
   values = (0, 0 ∷ [], 4) ∷ [];
   unknown = 2 ∷ [];
   sound = refl;
@@ -46,7 +56,14 @@ user = record {
   words = words;
   init = fact 0 (1 ∷ []) ∷ [];
   goal = facts (3 ∷ []);
-  schemas = record { pre = its 1 ∷ []; add = bare 3 ∷ []; del = its 1 ∷ []; cost = Call 0 (Param 0 ∷ []) } ∷ idle ∷ idle ∷ [];
+  schemas =
+      record {
+        pre = its 1 ∷ [];
+        add = bare 3 ∷ [];
+        del = its 1 ∷ [];
+        cost = Call 0
+            (Param 0 ∷ []);
+      } ∷ idle ∷ idle ∷ [];
   values = (0, 1 ∷ [], 5) ∷ [];
   unknown = 1 ∷ [];
   sound = refl;

@@ -65,7 +65,8 @@ user = record {
   sound = refl;
 }
 
--- 1 the goal has (at c); 2 the value of (road a c) is 9, not 4; 3 the value of (road b a) is 1, not none
+-- 1 the goal has (at c); 2 the value of (road a c) is 9, not 4; 3 the value of (road b a) is 1, not
+-- none
 abbrev pub places : List Place
 places = Goal (at 2) ∷ Value 0 (0 ∷ 2 ∷ []) ∷ Value 0 (1 ∷ 0 ∷ []) ∷ []
 

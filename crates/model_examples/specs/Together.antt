@@ -12,7 +12,8 @@ abbrev pub words : Vocabulary
 words = record {
   types = one_type;
   objects = [];
-  predicates = word (codes "p") [] ∷ word (codes "x") [] ∷ word (codes "y") [] ∷ word (codes "g") [] ∷ [];
+  predicates =
+      word (codes "p") [] ∷ word (codes "x") [] ∷ word (codes "y") [] ∷ word (codes "g") [] ∷ [];
   functions = [];
   actions = word (codes "walk") [] ∷ word (codes "jump") [] ∷ [];
   sound = refl;

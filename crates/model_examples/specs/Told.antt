@@ -10,8 +10,12 @@ of numbers = set.from_list numbers
 
 -- the complete sets of a task are those of the lists, and no other
 abbrev pub AreComplete : Task → List (List ℕ) → Type 0
-AreComplete task lists = (told : set.FinSet nat_cmp) → IsWithin task told → IsComplete task told ↔ Contains (map of lists) told
+AreComplete task lists =
+    (told : set.FinSet nat_cmp) → IsWithin task told
+    → IsComplete task told ↔ Contains (map of lists) told
 
 -- the monotonic sets of a task are those of the lists, and no other
 abbrev pub AreMonotonic : Task → List (List ℕ) → Type 0
-AreMonotonic task lists = (told : set.FinSet nat_cmp) → IsWithin task told → IsMonotonic task told ↔ Contains (map of lists) told
+AreMonotonic task lists =
+    (told : set.FinSet nat_cmp) → IsWithin task told
+    → IsMonotonic task told ↔ Contains (map of lists) told

@@ -1,4 +1,5 @@
-//! The definitions of `model_kit` on small models. Calling one of these functions does nothing: what it ensures is a fact.
+//! The definitions of `model_kit` on small models. Calling one of these functions does nothing:
+//! what it ensures is a fact.
 #![tactic(auto)]
 
 mod differences;

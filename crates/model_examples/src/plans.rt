@@ -5,7 +5,8 @@ ghost use Rattle.model_examples.specs.Build.{step};
 ghost use Rattle.model_examples.specs.Hidden as hidden;
 ghost use Rattle.model_examples.specs.Roads as roads;
 
-/// Costs are numbers or values at the objects; an absent value is no cost, and an unknown action has none.
+/// Costs are numbers or values at the objects; an absent value is no cost, and an unknown action
+/// has none.
 pub fn costs()
     ensures value { cost_of (meaning roads.planner) (roads.go 0 1) ≡ Some 2 }
     ensures absent { cost_of (meaning roads.user) (roads.go 1 0) ≡ None }
@@ -14,7 +15,8 @@ pub fn costs()
     ensures no_action { cost_of (meaning hidden.planner) (step 2) ≡ None }
 {}
 
-/// An action applies where its preconditions are true and it has a cost; what it deletes and adds is true afterwards.
+/// An action applies where its preconditions are true and it has a cost; what it deletes and adds
+/// is true afterwards.
 pub fn steps()
     ensures needed { Needs (meaning roads.planner) (roads.go 0 1) (roads.at 0) }
     ensures not_needed { ¬ Needs (meaning roads.planner) (roads.go 0 1) (roads.at 1) }

@@ -5,7 +5,8 @@ ghost use Rattle.model_kit.specs.declared.model.CostExpr.TheVariants.{Number, Ca
 ghost use Rattle.model_kit.specs.Names.{is_name, are_entries};
 ghost use Rattle.model_kit.specs.Words.{are_types, are_typed, are_signatures, is_no_total};
 ghost use Rattle.model_kit.specs.Vocabulary.{is_ground_atom, is_schema_atom, is_ground_action};
-ghost use Rattle.model_kit.specs.Features.{are_ground_atoms, are_schema_atoms, is_cost, is_schema, is_value, same_key, is_action};
+ghost use Rattle.model_kit.specs.Features.{are_ground_atoms, are_schema_atoms, is_cost, is_schema};
+ghost use Rattle.model_kit.specs.Features.{is_value, same_key, is_action};
 ghost use Rattle.model_examples.specs.Build.{word, one_type, fact, atom};
 ghost use Rattle.model_examples.specs.Depot as depot;
 ghost use Rattle.model_examples.specs.Roads as roads;
@@ -24,7 +25,8 @@ pub fn names()
 /// The lists of a vocabulary.
 pub fn vocabulary_lists()
     ensures below { are_types ((codes "object", 0) ∷ (codes "x", 2) ∷ (codes "y", 0) ∷ []) ≡ true }
-    ensures circle { are_types ((codes "object", 0) ∷ (codes "x", 2) ∷ (codes "y", 1) ∷ []) ≡ false }
+    ensures circle { are_types ((codes "object", 0) ∷ (codes "x", 2) ∷ (codes "y", 1) ∷ [])
+        ≡ false }
     ensures not_first { are_types ((codes "x", 1) ∷ (codes "object", 1) ∷ []) ≡ false }
     ensures no_types { are_types [] ≡ false }
     ensures type_twice { are_types ((codes "object", 0) ∷ (codes "object", 0) ∷ []) ≡ false }
@@ -66,7 +68,8 @@ pub fn model_lists()
     ensures term { is_cost roads.words (0 ∷ []) (Call 0 (Param 0 ∷ Object 2 ∷ [])) ≡ true }
     ensures short_term { is_cost roads.words (0 ∷ []) (Call 0 (Param 0 ∷ [])) ≡ false }
     ensures values { are_entries (is_value roads.words) same_key roads.planner.values ≡ true }
-    ensures value_twice { are_entries (is_value roads.words) same_key ((0, 0 ∷ 1 ∷ [], 2) ∷ (0, 0 ∷ 1 ∷ [], 3) ∷ []) ≡ false }
+    ensures value_twice { are_entries (is_value roads.words) same_key
+        ((0, 0 ∷ 1 ∷ [], 2) ∷ (0, 0 ∷ 1 ∷ [], 3) ∷ []) ≡ false }
     ensures unknown { are_entries (is_action roads.words) ◌==◌ (0 ∷ []) ≡ true }
     ensures unknown_twice { are_entries (is_action roads.words) ◌==◌ (0 ∷ 0 ∷ []) ≡ false }
     ensures no_action { are_entries (is_action roads.words) ◌==◌ (1 ∷ []) ≡ false }

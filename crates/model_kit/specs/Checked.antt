@@ -7,7 +7,8 @@ use Rattle.model_kit.specs.declared.model.Model.{Model}
 use Rattle.model_kit.specs.declared.model.Schema.{Schema}
 
 -- the vocabulary has these lists
-pub record HasWords (types objects : List (List ℕ × ℕ)) (predicates functions actions : List Signature) (words : Vocabulary) : Type 0 where
+pub record HasWords (types objects : List (List ℕ × ℕ))
+    (predicates functions actions : List Signature) (words : Vocabulary) : Type 0 where
   pub types_are : words.types ≡ types
   pub objects_are : words.objects ≡ objects
   pub predicates_are : words.predicates ≡ predicates
@@ -15,7 +16,8 @@ pub record HasWords (types objects : List (List ℕ × ℕ)) (predicates functio
   pub actions_are : words.actions ≡ actions
 
 -- the model has this vocabulary and these lists
-pub record HasFeatures (words : Vocabulary) (init goal : List GroundAtom) (schemas : List Schema) (values : List (ℕ × List ℕ × ℕ)) (unknown : List ℕ) (model : Model) : Type 0 where
+pub record HasFeatures (words : Vocabulary) (init goal : List GroundAtom) (schemas : List Schema)
+    (values : List (ℕ × List ℕ × ℕ)) (unknown : List ℕ) (model : Model) : Type 0 where
   pub words_are : model.words ≡ words
   pub init_is : model.init ≡ init
   pub goal_is : model.goal ≡ goal

@@ -1,4 +1,5 @@
--- Complete and monotonic sets of differences, and the first of them (after Chakraborti et al., IJCAI 2017).
+-- Complete and monotonic sets of differences, and the first of them (after Chakraborti et al.,
+-- IJCAI 2017).
 use Rattle.std.specs.Prelude.{ℕ, ◌≡◌, ◌≢◌, ◌≤◌, List, length, All, IsTrue}
 use Rattle.std.specs.Ordering.{nat_cmp}
 use Rattle.std.specs.FinSet as set
@@ -34,17 +35,22 @@ IsWithin task told = (k : ℕ) → IsTrue (set.contains told k) → (1 ≤ k) ×
 
 -- the plan is cheapest in the user's model after these differences
 abbrev pub IsComplete : Task → set.FinSet nat_cmp → Type 0
-IsComplete task told = IsCheapest task.words (patched task.planner task.user task.places told) task.plan
+IsComplete task told =
+    IsCheapest task.words (patched task.planner task.user task.places told) task.plan
 
 -- complete, whichever further differences are told
 abbrev pub IsMonotonic : Task → set.FinSet nat_cmp → Type 0
-IsMonotonic task told = (more : set.FinSet nat_cmp) → IsWithin task more → IsTrue (set.is_subset told more) → IsComplete task more
+IsMonotonic task told =
+    (more : set.FinSet nat_cmp) → IsWithin task more → IsTrue (set.is_subset told more)
+    → IsComplete task more
 
 -- the set has the property, and is before each other set that has it
-pub record IsFirst (task : Task) (P : set.FinSet nat_cmp → Type 0) (told : set.FinSet nat_cmp) : Type 0 where
+pub record IsFirst (task : Task) (P : set.FinSet nat_cmp → Type 0)
+    (told : set.FinSet nat_cmp) : Type 0 where
   pub within : IsWithin task told
   pub has : P told
-  pub first : (other : set.FinSet nat_cmp) → IsWithin task other → P other → other ≢ told → IsTrue (is_before task.weights told other)
+  pub first : (other : set.FinSet nat_cmp) → IsWithin task other → P other → other ≢ told
+      → IsTrue (is_before task.weights told other)
 
 -- the minimally complete explanation, and the minimally monotonic one
 abbrev pub IsMCE : Task → set.FinSet nat_cmp → Type 0

@@ -1,4 +1,5 @@
--- The facts that every model has: what it lists fits its vocabulary, and no feature is listed twice.
+-- The facts that every model has: what it lists fits its vocabulary, and no feature is listed
+-- twice.
 use Rattle.std.specs.Prelude.{ℕ, ◌==◌, ◌&&◌, nat_lt, Bool, true, IsTrue, List, length}
 use Rattle.std.specs.Cmp.Lexicographic.{pointwise}
 use Rattle.model_kit.specs.declared.vocabulary.Vocabulary.{Vocabulary}
@@ -10,7 +11,8 @@ use Rattle.model_kit.specs.declared.model.CostExpr.{CostExpr}
 use Rattle.model_kit.specs.declared.model.CostExpr.TheVariants.{Number, Call}
 use Rattle.model_kit.specs.Names.{are_entries}
 use Rattle.model_kit.specs.Same.{same_numbers, same_atom, same_schema_atom}
-use Rattle.model_kit.specs.Vocabulary.{is_object_of, is_term_of, fits_signature, is_ground_atom, is_schema_atom}
+use Rattle.model_kit.specs.Vocabulary.{is_object_of, is_term_of, fits_signature, is_ground_atom}
+use Rattle.model_kit.specs.Vocabulary.{is_schema_atom}
 
 -- ground atoms of the vocabulary, without repeats
 abbrev pub are_ground_atoms : Vocabulary → List GroundAtom → Bool
@@ -18,12 +20,14 @@ are_ground_atoms words atoms = are_entries (is_ground_atom words) same_atom atom
 
 -- atoms of a schema with these parameters, without repeats
 abbrev pub are_schema_atoms : Vocabulary → List ℕ → List SchemaAtom → Bool
-are_schema_atoms words params atoms = are_entries (is_schema_atom words params) same_schema_atom atoms
+are_schema_atoms words params atoms =
+    are_entries (is_schema_atom words params) same_schema_atom atoms
 
 -- a number, or a function with terms that fit its parameters
 abbrev pub is_cost : Vocabulary → List ℕ → CostExpr → Bool
 is_cost words params (Number n) = true
-is_cost words params (Call function args) = fits_signature (is_term_of words params) words.functions function args
+is_cost words params (Call function args) =
+    fits_signature (is_term_of words params) words.functions function args
 
 -- the cost of an action with some parameters
 abbrev pub IsCost : Vocabulary → CostExpr → Type 0
@@ -49,8 +53,10 @@ same_key v w = (v.0 == w.0) && same_numbers v.1 w.1
 abbrev pub is_action : Vocabulary → ℕ → Bool
 is_action words action = nat_lt action (length words.actions)
 
--- the lists are those of a model: initial facts, goal facts, one schema for each action in their order, function values and unknown actions
-abbrev pub is_model : Vocabulary → List GroundAtom → List GroundAtom → List Schema → List (ℕ × List ℕ × ℕ) → List ℕ → Bool
+-- the lists are those of a model: initial facts, goal facts, one schema for each action in their
+-- order, function values and unknown actions
+abbrev pub is_model : Vocabulary → List GroundAtom → List GroundAtom → List Schema
+    → List (ℕ × List ℕ × ℕ) → List ℕ → Bool
 is_model words init goal schemas values unknown =
     are_ground_atoms words init
     && are_ground_atoms words goal

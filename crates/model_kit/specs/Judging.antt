@@ -1,5 +1,7 @@
--- How a plan is judged: the state is kept as an ordered set of its atoms, and the function values as an ordered map.
-use Rattle.std.specs.Prelude.{ℕ, ◌≡◌, ◌<◌, ◌↔◌, ◌&&◌, ◌||◌, not, Bool, IsTrue, IsNone, Option, None, Some, if◌then◌else◌, List, length, All, Contains, map}
+-- How a plan is judged: the state is kept as an ordered set of its atoms, and the function values
+-- as an ordered map.
+use Rattle.std.specs.Prelude.{ℕ, ◌≡◌, ◌<◌, ◌↔◌, ◌&&◌, ◌||◌, not, Bool, IsTrue, IsNone, Option, None}
+use Rattle.std.specs.Prelude.{Some, if◌then◌else◌, List, length, All, Contains, map}
 use Rattle.std.specs.List.{list_any}
 use Rattle.std.specs.Ordering.{nat_cmp, is_lt, on, then_cmp}
 use Rattle.std.specs.declared.cmp.Ordering.{Ordering}
@@ -36,7 +38,8 @@ StateOf state atom = IsTrue (has state atom)
 
 -- the map gives each value of the list
 abbrev pub IsTableOf : List (ℕ × List ℕ × ℕ) → BTreeMap FunctionTerm ℕ → Type 0
-IsTableOf values table = (term : FunctionTerm) → get term_cmp table term ≡ value_of values term.function term.objects
+IsTableOf values table =
+    (term : FunctionTerm) → get term_cmp table term ≡ value_of values term.function term.objects
 
 -- each parameter among the terms has an object
 abbrev pub ArePlaced : List ℕ → List Term → Type 0
@@ -46,19 +49,29 @@ ArePlaced objects terms = All (λ term. (i : ℕ) → term ≡ Param i → i < l
 abbrev pub IsMissing : List GroundAtom → BTreeSet GroundAtom → GroundAtom → Type 0
 IsMissing atoms state atom = Contains atoms atom × ¬ StateOf state atom
 
--- of a place with its text, if there is one yet, and a further place with its text, the one whose text comes first
+-- of a place with its text, if there is one yet, and a further place with its text, the one whose
+-- text comes first
 abbrev pub earlier_of : Option (ℕ × List ℕ) → ℕ → List ℕ → Option (ℕ × List ℕ)
 earlier_of None place text = Some (place, text)
-earlier_of (Some best) place text = if is_lt (slice_cmp nat_cmp text best.1) then Some (place, text) else Some best
+earlier_of (Some best) place text =
+    if is_lt (slice_cmp nat_cmp text best.1) then Some (place, text) else Some best
 
 -- the deletes are out, and the adds are in
-abbrev pub Changes : List ℕ → List SchemaAtom → List SchemaAtom → BTreeSet GroundAtom → BTreeSet GroundAtom → Type 0
+abbrev pub Changes : List ℕ → List SchemaAtom → List SchemaAtom → BTreeSet GroundAtom
+    → BTreeSet GroundAtom → Type 0
 Changes objects dels adds old new =
-    (atom : GroundAtom) → has new atom ≡ ((has old atom && not (list_any (same_atom atom) (map (instance objects) dels))) || list_any (same_atom atom) (map (instance objects) adds))
+    (atom : GroundAtom) → has new atom ≡ ((has old atom
+    && not (list_any (same_atom atom) (map (instance objects) dels)))
+    || list_any (same_atom atom) (map (instance objects) adds))
 
 -- what became of one step
-abbrev pub Steps : Vocabulary → Meaning → GroundAction → BTreeSet GroundAtom → BTreeSet GroundAtom → Step → Type 0
+abbrev pub Steps : Vocabulary → Meaning → GroundAction → BTreeSet GroundAtom → BTreeSet GroundAtom
+    → Step → Type 0
 Steps words model action old new (Taken price) =
-    Applies model (StateOf old) action × (cost_of model action ≡ Some price) × ((atom : GroundAtom) → StateOf new atom ↔ After model (StateOf old) action atom)
-Steps words model action old new (Unmet atom) = IsFirstPrinted words (Lacks model action (StateOf old)) atom
-Steps words model action old new Unpriced = ((atom : GroundAtom) → Needs model action atom → StateOf old atom) × IsNone (cost_of model action)
+    Applies model (StateOf old) action × (cost_of model action ≡ Some price)
+    × ((atom : GroundAtom) → StateOf new atom ↔ After model (StateOf old) action atom)
+Steps words model action old new (Unmet atom) =
+    IsFirstPrinted words (Lacks model action (StateOf old)) atom
+Steps words model action old new Unpriced =
+    ((atom : GroundAtom) → Needs model action atom → StateOf old atom)
+    × IsNone (cost_of model action)

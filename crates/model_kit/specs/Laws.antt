@@ -1,4 +1,5 @@
--- Laws of explanations: there are an MCE and an MME exactly where they can be, each is the only one, and how they lie to each other.
+-- Laws of explanations: there are an MCE and an MME exactly where they can be, each is the only
+-- one, and how they lie to each other.
 use Rattle.std.specs.Prelude.{ℕ, ◌≡◌, ◌≤◌, List, length, All, IsFalse}
 use Rattle.std.specs.Ordering.{nat_cmp}
 use Rattle.std.specs.FinSet as set
@@ -17,24 +18,31 @@ AtMostOne P = (a b : set.FinSet nat_cmp) → P a → P b → a ≡ b
 
 -- where the plan is cheapest in the planner's model there is an MCE, and never two
 pub record MCELaw (task : Task) : Type 0 where
-  pub exists : IsCheapest task.words task.planner task.plan → (mce : set.FinSet nat_cmp) × IsMCE task mce
+  pub exists : IsCheapest task.words task.planner task.plan
+      → (mce : set.FinSet nat_cmp) × IsMCE task mce
   pub one : AtMostOne (IsMCE task)
 
 -- there is an MME exactly where the plan is cheapest in the planner's model, and never two
 pub record MMELaw (task : Task) : Type 0 where
-  pub exists : IsCheapest task.words task.planner task.plan → (mme : set.FinSet nat_cmp) × IsMME task mme
-  pub only : (mme : set.FinSet nat_cmp) → IsMME task mme → IsCheapest task.words task.planner task.plan
+  pub exists : IsCheapest task.words task.planner task.plan
+      → (mme : set.FinSet nat_cmp) × IsMME task mme
+  pub only : (mme : set.FinSet nat_cmp) → IsMME task mme
+      → IsCheapest task.words task.planner task.plan
   pub one : AtMostOne (IsMME task)
 
 -- the weight of a set of differences
 abbrev pub weight_of : Task → set.FinSet nat_cmp → ℕ
 weight_of task told = weight task.weights (numbers (length task.weights) told)
 
--- where there is an MME there is an MCE, and the MME is never before the MCE and has no smaller weight
+-- where there is an MME there is an MCE, and the MME is never before the MCE and has no smaller
+-- weight
 pub record OrderLaw (task : Task) : Type 0 where
-  pub exists : (mme : set.FinSet nat_cmp) → IsMME task mme → (mce : set.FinSet nat_cmp) × IsMCE task mce
-  pub never_before : (mme mce : set.FinSet nat_cmp) → IsMME task mme → IsMCE task mce → IsFalse (is_before task.weights mme mce)
-  pub no_lighter : (mme mce : set.FinSet nat_cmp) → IsMME task mme → IsMCE task mce → weight_of task mce ≤ weight_of task mme
+  pub exists : (mme : set.FinSet nat_cmp) → IsMME task mme
+      → (mce : set.FinSet nat_cmp) × IsMCE task mce
+  pub never_before : (mme mce : set.FinSet nat_cmp) → IsMME task mme → IsMCE task mce
+      → IsFalse (is_before task.weights mme mce)
+  pub no_lighter : (mme mce : set.FinSet nat_cmp) → IsMME task mme → IsMCE task mce
+      → weight_of task mce ≤ weight_of task mme
 
 -- the task of two models in the numbers of one vocabulary
 abbrev pub task_of : Vocabulary → Model → Model → List Place → List ℕ → List GroundAction → Task
@@ -47,7 +55,8 @@ task_of words planner user places weights plan = record {
   plan = plan;
 }
 
--- the law of two models that agree, a plan in the planner's vocabulary and weights: of their task in the joint vocabulary
+-- the law of two models that agree, a plan in the planner's vocabulary and weights: of their task
+-- in the joint vocabulary
 abbrev pub LawOf : (Task → Type 0) → Model → Model → List GroundAction → List ℕ → Type 0
 LawOf Law planner user plan weights =
     (words : Vocabulary) (joint_planner joint_user : Model) (places : List Place)

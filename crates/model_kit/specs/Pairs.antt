@@ -1,5 +1,7 @@
--- Two models side by side: when they agree, the vocabulary that has the names of both, and each model in its numbers.
-use Rattle.std.specs.Prelude.{ℕ, ◌≡◌, ◌↔◌, not, Bool, List, [], ◌++◌, length, map, filter, Contains, Option, slice_get}
+-- Two models side by side: when they agree, the vocabulary that has the names of both, and each
+-- model in its numbers.
+use Rattle.std.specs.Prelude.{ℕ, ◌≡◌, ◌↔◌, not, Bool, List, [], ◌++◌, length, map, filter, Contains}
+use Rattle.std.specs.Prelude.{Option, slice_get}
 use Rattle.std.specs.List.{list_any, position_or_len, range_with_len}
 use Rattle.std.specs.Option.{option_map, option_map_or, option_or}
 use Rattle.model_kit.specs.declared.vocabulary.Vocabulary.{Vocabulary}
@@ -24,14 +26,18 @@ typed_names words entries = map (λ entry. (entry.0, type_name words entry.1)) e
 
 -- the same names with the same types
 abbrev pub SameTyped : (Vocabulary → List (List ℕ × ℕ)) → Vocabulary → Vocabulary → Type 0
-SameTyped part one two = (e : List ℕ × List ℕ) → Contains (typed_names one (part one)) e ↔ Contains (typed_names two (part two)) e
+SameTyped part one two =
+    (e : List ℕ × List ℕ) → Contains (typed_names one (part one)) e
+    ↔ Contains (typed_names two (part two)) e
 
 -- a name that stands in both has equal parameter types
 abbrev pub SameParams : (Vocabulary → List Signature) → Vocabulary → Vocabulary → Type 0
 SameParams part one two =
-    (s t : Signature) → Contains (part one) s → Contains (part two) t → s.name ≡ t.name → map (type_name one) s.params ≡ map (type_name two) t.params
+    (s t : Signature) → Contains (part one) s → Contains (part two) t → s.name ≡ t.name
+    → map (type_name one) s.params ≡ map (type_name two) t.params
 
--- the vocabularies agree in types with their parents, in objects with their types, and in the parameters of what stands in both
+-- the vocabularies agree in types with their parents, in objects with their types, and in the
+-- parameters of what stands in both
 pub record Agree (planner user : Vocabulary) : Type 0 where
   pub types : SameTyped (λ w. w.types) planner user
   pub objects : SameTyped (λ w. w.objects) planner user
@@ -64,7 +70,8 @@ signature_in part from to n = number_of (names (part to)) (name_of (part from) n
 abbrev pub joined : (Vocabulary → List Signature) → Vocabulary → Vocabulary → List Signature
 joined part planner user =
     part planner
-    ++ map (λ s. record { name = s.name; params = map (type_in user planner) s.params }) (filter (λ s. not (is_named (part planner) s.name)) (part user))
+    ++ map (λ s. record { name = s.name; params = map (type_in user planner) s.params })
+    (filter (λ s. not (is_named (part planner) s.name)) (part user))
 
 -- the joint vocabulary
 pub record IsJoint (planner user words : Vocabulary) : Type 0 where
@@ -75,18 +82,29 @@ pub record IsJoint (planner user words : Vocabulary) : Type 0 where
   pub actions : words.actions ≡ joined (λ w. w.actions) planner user
 
 abbrev pub atom_in : Vocabulary → Vocabulary → GroundAtom → GroundAtom
-atom_in from to atom = record { predicate = signature_in (λ w. w.predicates) from to atom.predicate; objects = map (object_in from to) atom.objects }
+atom_in from to atom =
+    record {
+      predicate = signature_in (λ w. w.predicates) from to atom.predicate;
+      objects = map
+          (object_in from to) atom.objects;
+    }
 
 abbrev pub term_in : Vocabulary → Vocabulary → Term → Term
 term_in from to (Param i) = Param i
 term_in from to (Object object) = Object (object_in from to object)
 
 abbrev pub schema_atom_in : Vocabulary → Vocabulary → SchemaAtom → SchemaAtom
-schema_atom_in from to atom = record { predicate = signature_in (λ w. w.predicates) from to atom.predicate; args = map (term_in from to) atom.args }
+schema_atom_in from to atom =
+    record {
+      predicate = signature_in (λ w. w.predicates) from to atom.predicate;
+      args = map
+          (term_in from to) atom.args;
+    }
 
 abbrev pub cost_in : Vocabulary → Vocabulary → CostExpr → CostExpr
 cost_in from to (Number n) = Number n
-cost_in from to (Call function args) = Call (signature_in (λ w. w.functions) from to function) (map (term_in from to) args)
+cost_in from to (Call function args) =
+    Call (signature_in (λ w. w.functions) from to function) (map (term_in from to) args)
 
 abbrev pub schema_in : Vocabulary → Vocabulary → Schema → Schema
 schema_in from to schema = record {
@@ -99,21 +117,31 @@ schema_in from to schema = record {
 abbrev pub value_in : Vocabulary → Vocabulary → ℕ × List ℕ × ℕ → ℕ × List ℕ × ℕ
 value_in from to v = (signature_in (λ w. w.functions) from to v.0, map (object_in from to) v.1, v.2)
 
--- a model's schema of the action with this name, in the numbers of a vocabulary, if the model has the action
+-- a model's schema of the action with this name, in the numbers of a vocabulary, if the model has
+-- the action
 abbrev pub schema_named : Vocabulary → Model → List ℕ → Option Schema
-schema_named words model name = option_map (schema_in model.words words) (slice_get model.schemas (number_of (names model.words.actions) name))
+schema_named words model name =
+    option_map (schema_in model.words words)
+    (slice_get model.schemas (number_of (names model.words.actions) name))
 
--- a model in the numbers of the joint vocabulary: an action that it lacks has the other model's schema and isn't known
+-- a model in the numbers of the joint vocabulary: an action that it lacks has the other model's
+-- schema and isn't known
 pub record IsModelIn (words : Vocabulary) (own other result : Model) : Type 0 where
   pub words_are : result.words ≡ words
   pub init : result.init ≡ map (atom_in own.words words) own.init
   pub goal : result.goal ≡ map (atom_in own.words words) own.goal
-  pub schemas : (n : ℕ) → slice_get result.schemas n ≡ option_or (schema_named words own (name_of words.actions n)) (schema_named words other (name_of words.actions n))
+  pub schemas : (n : ℕ) → slice_get result.schemas n
+      ≡ option_or (schema_named words own (name_of words.actions n))
+      (schema_named words other (name_of words.actions n))
   pub values : result.values ≡ map (value_in own.words words) own.values
-  pub unknown : result.unknown ≡ filter (λ n. not (is_named own.words.actions (name_of words.actions n))) (range_with_len 0 (length words.actions))
+  pub unknown : result.unknown ≡ filter (λ n. not
+      (is_named own.words.actions (name_of words.actions n)))
+      (range_with_len 0 (length words.actions))
 
--- two models that agree and know all their actions, and the same two in the numbers of their joint vocabulary
-pub record ArePaired (planner user : Model) (words : Vocabulary) (joint_planner joint_user : Model) : Type 0 where
+-- two models that agree and know all their actions, and the same two in the numbers of their joint
+-- vocabulary
+pub record ArePaired (planner user : Model) (words : Vocabulary)
+    (joint_planner joint_user : Model) : Type 0 where
   pub planner_whole : planner.unknown ≡ []
   pub user_whole : user.unknown ≡ []
   pub agree : Agree planner.words user.words

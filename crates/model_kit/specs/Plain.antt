@@ -10,4 +10,6 @@ has_none (x ∷ xs) = false
 
 -- no predicate and no action has parameters, and no cost is a function's value
 abbrev pub is_plain : Vocabulary → Bool
-is_plain words = list_all (λ s. has_none s.params) words.predicates && (list_all (λ s. has_none s.params) words.actions && has_none words.functions)
+is_plain words =
+    list_all (λ s. has_none s.params) words.predicates
+    && (list_all (λ s. has_none s.params) words.actions && has_none words.functions)

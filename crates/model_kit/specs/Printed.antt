@@ -30,15 +30,19 @@ abbrev pub form : List ℕ → List (List ℕ) → List ℕ
 form name args = codes "(" ++ name ++ args_form args ++ codes ")"
 
 abbrev pub atom_form : Vocabulary → GroundAtom → List ℕ
-atom_form words atom = form (name_of words.predicates atom.predicate) (map (object_name words) atom.objects)
+atom_form words atom =
+    form (name_of words.predicates atom.predicate) (map (object_name words) atom.objects)
 
 abbrev pub schema_atom_form : Vocabulary → SchemaAtom → List ℕ
-schema_atom_form words atom = form (name_of words.predicates atom.predicate) (map (term_form words) atom.args)
+schema_atom_form words atom =
+    form (name_of words.predicates atom.predicate) (map (term_form words) atom.args)
 
 abbrev pub action_form : Vocabulary → GroundAction → List ℕ
-action_form words action = form (name_of words.actions action.schema) (map (object_name words) action.objects)
+action_form words action =
+    form (name_of words.actions action.schema) (map (object_name words) action.objects)
 
--- the printed form by which a place is ordered among those of its kind; there is one knowledge and one cost of an action
+-- the printed form by which a place is ordered among those of its kind; there is one knowledge and
+-- one cost of an action
 abbrev pub printed : Vocabulary → Place → List ℕ
 printed words (Init atom) = atom_form words atom
 printed words (Goal atom) = atom_form words atom

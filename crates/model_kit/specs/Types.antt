@@ -1,4 +1,5 @@
--- Types and the objects that fit them (PDDL with typing). A type is the place of its entry, which has its name and its parent.
+-- Types and the objects that fit them (PDDL with typing). A type is the place of its entry, which
+-- has its name and its parent.
 use Rattle.std.specs.Prelude.{ℕ, ◌==◌, Bool, zero, suc, List, length, slice_get}
 use Rattle.std.specs.List.{list_any, range_with_len}
 use Rattle.std.specs.Option.{option_map_or}
@@ -14,4 +15,5 @@ ancestor types (suc n) type = parent types (ancestor types n type)
 
 -- a type is another or below it: at most as many parents up as there are types stands the other
 abbrev pub is_of_type : List (List ℕ × ℕ) → ℕ → ℕ → Bool
-is_of_type types type above = list_any (λ n. ancestor types n type == above) (range_with_len 0 (suc (length types)))
+is_of_type types type above =
+    list_any (λ n. ancestor types n type == above) (range_with_len 0 (suc (length types)))

@@ -1,5 +1,6 @@
 -- The facts that every vocabulary has.
-use Rattle.std.specs.Prelude.{ℕ, ◌==◌, ◌&&◌, not, nat_lt, Bool, false, List, length, codes, slice_get}
+use Rattle.std.specs.Prelude.{ℕ, ◌==◌, ◌&&◌, not, nat_lt, Bool, false, List, length, codes}
+use Rattle.std.specs.Prelude.{slice_get}
 use Rattle.std.specs.List.{list_all, range_with_len}
 use Rattle.std.specs.Option.{option_map_or}
 use Rattle.model_kit.specs.declared.vocabulary.Signature.{Signature}
@@ -20,11 +21,15 @@ are_typed types entries = are_entries (is_typed types) same_name entries
 
 -- the first type is `object` and its own parent
 abbrev pub is_first : List (List ℕ × ℕ) → Bool
-is_first types = option_map_or (λ entry. same_numbers entry.0 (codes "object") && (entry.1 == 0)) (slice_get types 0) false
+is_first types =
+    option_map_or (λ entry. same_numbers entry.0 (codes "object") && (entry.1 == 0))
+    (slice_get types 0) false
 
 -- each parent is a type, and each chain of parents ends at `object`
 abbrev pub are_types : List (List ℕ × ℕ) → Bool
-are_types types = is_first types && are_typed types types && list_all (λ type. is_of_type types type 0) (range_with_len 0 (length types))
+are_types types =
+    is_first types && are_typed types types
+    && list_all (λ type. is_of_type types type 0) (range_with_len 0 (length types))
 
 -- a name in lower case, and the numbers of types
 abbrev pub is_signature : List (List ℕ × ℕ) → Signature → Bool
@@ -42,7 +47,8 @@ abbrev pub is_no_total : Signature → Bool
 is_no_total s = not (same_numbers s.name (codes "total-cost"))
 
 -- the lists are those of a vocabulary: types, objects, predicates, functions and actions
-abbrev pub is_vocabulary : List (List ℕ × ℕ) → List (List ℕ × ℕ) → List Signature → List Signature → List Signature → Bool
+abbrev pub is_vocabulary : List (List ℕ × ℕ) → List (List ℕ × ℕ) → List Signature → List Signature
+    → List Signature → Bool
 is_vocabulary types objects predicates functions actions =
     are_types types
     && are_typed types objects

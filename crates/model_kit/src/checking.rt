@@ -3,9 +3,11 @@ ghost use Rattle.std.specs.List.{list_all, range_with_len};
 ghost use Rattle.std.specs.Cmp.Lexicographic.{pointwise};
 ghost use Rattle.model_kit.specs.Same.{same_numbers, same_term, same_atom, same_schema_atom};
 ghost use Rattle.model_kit.specs.Types.{is_of_type as type_below};
-ghost use Rattle.model_kit.specs.Words.{is_typed, same_name, is_first, are_types, is_signature, same_word, is_no_total, is_vocabulary};
+ghost use Rattle.model_kit.specs.Words.{is_typed, same_name, is_first, are_types, is_signature};
+ghost use Rattle.model_kit.specs.Words.{same_word, is_no_total, is_vocabulary};
 ghost use Rattle.model_kit.specs.Vocabulary.{is_ground_atom, is_schema_atom};
-ghost use Rattle.model_kit.specs.Features.{is_cost, is_schema, is_value, same_key, is_action, is_model};
+ghost use Rattle.model_kit.specs.Features.{is_cost, is_schema, is_value, same_key, is_action};
+ghost use Rattle.model_kit.specs.Features.{is_model};
 ghost use Rattle.model_kit.specs.Checked.{HasWords, HasFeatures};
 
 use crate::entries::{Entry, do_pass};
@@ -22,7 +24,8 @@ impl Vocabulary {
         functions: List<Signature>,
         actions: List<Signature>,
     ) -> Option<Vocabulary>
-        ensures some { IsSome result ↔ IsTrue (is_vocabulary types objects predicates functions actions) }
+        ensures some { IsSome result ↔ IsTrue (is_vocabulary types objects predicates functions
+            actions) }
         ensures lists { IfSome result (HasWords types objects predicates functions actions) }
     {
         if is_begun(&types)
@@ -60,7 +63,8 @@ fn is_begun(types: &List<(Text, u32)>) -> bool
 
 // Whether each chain of parents ends at `object`.
 fn do_end(types: &List<(Text, u32)>) -> bool
-    ensures { result ≡ list_all (λ type. type_below types.now type 0) (range_with_len 0 (length types.now)) }
+    ensures { result ≡ list_all (λ type. type_below types.now type 0) (range_with_len 0
+        (length types.now)) }
 {
     for number in 0..types.len() {
         if !is_of_type(types, number, 0) {

@@ -4,7 +4,8 @@ ghost use Rattle.model_kit.specs.Names.{are_distinct, are_entries};
 
 use mre_base::List;
 
-// What stands in a list that has no entry twice, and is tested against what is given beside the list.
+// What stands in a list that has no entry twice, and is tested against what is given beside the
+// list.
 pub(crate) trait Entry<C> {
     ghost passes: { C → Self → Bool };
 
@@ -43,7 +44,8 @@ fn do_differ<C, T: Entry<C>>(entries: &List<T>) -> bool
 // Whether the entry at a place is the same as a later one.
 fn is_again<C, T: Entry<C>>(entries: &List<T>, place: usize) -> bool
     requires { place < length entries.now }
-    ensures { IfSome (slice_get entries.now place) (λ entry. result ≡ list_any (T.same entry) (drop (place + 1) entries.now)) }
+    ensures { IfSome (slice_get entries.now place)
+        (λ entry. result ≡ list_any (T.same entry) (drop (place + 1) entries.now)) }
 {
     let entry = entries.item(place);
     let count = entries.len();

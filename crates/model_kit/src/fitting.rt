@@ -3,7 +3,8 @@ ghost use Rattle.std.specs.List.{list_all};
 ghost use Rattle.std.specs.Cmp.Lexicographic.{pointwise};
 ghost use Rattle.model_kit.specs.Names.{is_first_byte, is_later_byte, is_name as name_of_bytes};
 ghost use Rattle.model_kit.specs.Types.{parent as parent_of, is_of_type as type_below};
-ghost use Rattle.model_kit.specs.Vocabulary.{is_object_of as object_below, is_term_of as term_below, fits_signature};
+ghost use Rattle.model_kit.specs.Vocabulary.{is_object_of as object_below};
+ghost use Rattle.model_kit.specs.Vocabulary.{is_term_of as term_below, fits_signature};
 
 use crate::{Signature, Term, Vocabulary};
 use mre_base::{List, Text};
@@ -129,7 +130,8 @@ pub(crate) fn do_terms_fit(
     number: u32,
     terms: &List<Term>,
 ) -> bool
-    ensures { result ≡ fits_signature (term_below words.now params.now) signatures.now number terms.now }
+    ensures { result ≡ fits_signature (term_below words.now
+        params.now) signatures.now number terms.now }
 {
     (number as usize) < signatures.len()
         && are_terms_of(

@@ -16,7 +16,8 @@ use std::collections::{BTreeMap, BTreeSet};
 pub enum NamedJudgement {
     /// Each step applies, the goal holds at the end, and the steps cost this much together.
     Valid { cost: u64 },
-    /// The first step that doesn't apply, and the first precondition that it lacks, in ASCII order of the printed form.
+    /// The first step that doesn't apply, and the first precondition that it lacks, in ASCII order
+    /// of the printed form.
     Fails { step: u32, atom: GroundAtom },
     /// The first step that doesn't apply: it has its preconditions and no cost.
     NoCost { step: u32 },
@@ -30,7 +31,8 @@ pub fn judge_names(alloc: Global, model: &Model, plan: &Plan) -> Result<NamedJud
     requires few { length plan.now.steps < 2 ^ 30 }
     ensures judged { IfOk result (Judges model.now.words (meaning model.now) plan.now.steps) }
     ensures fits { IfOk result (NamesAtoms model.now.words) }
-    ensures only { IfOk result (λ judgement. (other : NamedJudgement) → Judges model.now.words (meaning model.now) plan.now.steps other → other ≡ judgement) }
+    ensures only { IfOk result (λ judgement. (other : NamedJudgement)
+        → Judges model.now.words (meaning model.now) plan.now.steps other → other ≡ judgement) }
 {
     let values = value_table(alloc, &model.values)?;
     let mut state = initial_state(alloc, &model.init)?;
@@ -68,7 +70,8 @@ fn take_step(
 ) -> Result<Step, NoMemory>
     requires fits { IsTrue (is_ground_action model.now.words action.now) }
     requires table { IsTableOf model.now.values values.now }
-    ensures ok { IfOk result (Steps model.now.words (meaning model.now) action.now state.old state.new) }
+    ensures ok { IfOk result (Steps model.now.words (meaning model.now) action.now state.old
+        state.new) }
 {
     let schema = model.schemas.item(action.schema as usize);
     let needed = instances(alloc, &schema.pre, &action.objects)?;
@@ -93,7 +96,8 @@ fn first_missing(
 ) -> Result<Option<GroundAtom>, NoMemory>
     requires { All (λ atom. IsTrue (is_ground_atom words.now atom)) atoms.now }
     ensures none { IfOk result (λ found. IfNone found (All (StateOf state.now) atoms.now)) }
-    ensures first { IfOk result (λ found. IfSome found (IsFirstPrinted words.now (IsMissing atoms.now state.now))) }
+    ensures first { IfOk result (λ found. IfSome found
+        (IsFirstPrinted words.now (IsMissing atoms.now state.now))) }
 {
     let mut best: Option<(usize, Text)> = None;
     for place in 0..atoms.len() {
@@ -111,7 +115,8 @@ fn first_missing(
     Ok(Some(atom))
 }
 
-// Of a place with its text, if there is one yet, and a further place with its text, the one whose text comes first.
+// Of a place with its text, if there is one yet, and a further place with its text, the one whose
+// text comes first.
 fn earlier(best: Option<(usize, Text)>, place: usize, text: Text) -> Option<(usize, Text)>
     ensures { result ≡ earlier_of best place text }
 {

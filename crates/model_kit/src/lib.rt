@@ -1,4 +1,5 @@
-//! Planning models as plain data, what plans and explanations mean over them, and the judging of a plan.
+//! Planning models as plain data, what plans and explanations mean over them, and the judging of a
+//! plan.
 #![tactic(auto)]
 
 mod action;

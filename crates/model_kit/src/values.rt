@@ -63,7 +63,8 @@ impl PartialOrd for FunctionTerm {
     }
 }
 
-/// The values of a model, for look-ups. Where a function stood twice at the same objects, the first value would count.
+/// The values of a model, for look-ups. Where a function stood twice at the same objects, the first
+/// value would count.
 pub fn value_table(
     alloc: Global,
     values: &List<(u32, List<u32>, u32)>,
@@ -88,7 +89,8 @@ pub fn value_at(
     function: u32,
     objects: List<u32>,
 ) -> Option<u32>
-    ensures { (list : ListOf (ℕ × ListOf ℕ × ℕ)) → IsTableOf list values.now → result ≡ value_of list function objects }
+    ensures { (list : ListOf (ℕ × ListOf ℕ × ℕ)) → IsTableOf list values.now
+        → result ≡ value_of list function objects }
 {
     values.get(&FunctionTerm { function, objects }).copied()
 }

@@ -26,7 +26,8 @@ impl Copied for Signature {
     }
 }
 
-/// The words of a model. Types, objects, predicates, functions and actions are numbered by their places, from 0.
+/// The words of a model. Types, objects, predicates, functions and actions are numbered by their
+/// places, from 0.
 #[derive(Debug)]
 pub struct Vocabulary {
     /// Each type with its parent. Type 0 is `object`, which is its own parent.

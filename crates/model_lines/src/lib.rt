@@ -1,4 +1,5 @@
-//! What domains, models and plans hold, a line an entry, and where a text goes wrong: for people and tests to read.
+//! What domains, models and plans hold, a line an entry, and where a text goes wrong: for people
+//! and tests to read.
 #![tactic(auto)]
 
 mod forms;

@@ -22,7 +22,8 @@ fn name_of(rule: TextRule) -> &'static str {
     }
 }
 
-/// Where a text first goes wrong, as `LINE:COLUMN: RULE WORD`; without the word where there is none.
+/// Where a text first goes wrong, as `LINE:COLUMN: RULE WORD`; without the word where there is
+/// none.
 pub fn fault_text(alloc: Global, fault: &TextFault) -> Result<String, NoMemory> {
     let line = fault.at.line;
     let column = fault.at.column;

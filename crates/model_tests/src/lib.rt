@@ -1,4 +1,5 @@
-//! What is said of models: judgements of plans, from texts of PDDL, and which lists are a vocabulary's or a model's.
+//! What is said of models: judgements of plans, from texts of PDDL, and which lists are a
+//! vocabulary's or a model's.
 #![tactic(auto)]
 
 #[cfg(test)]

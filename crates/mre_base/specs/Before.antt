@@ -1,5 +1,7 @@
--- The order of sets of difference numbers: the smaller total weight first, then the fewer numbers, then the earlier ascending list.
-use Rattle.std.specs.Prelude.{ℕ, ◌-◌, Bool, true, false, List, [], ◌∷◌, length, filter, sum_by, slice_index, nat_lt, nat_eq, if◌then◌else◌}
+-- The order of sets of difference numbers: the smaller total weight first, then the fewer numbers,
+-- then the earlier ascending list.
+use Rattle.std.specs.Prelude.{ℕ, ◌-◌, Bool, true, false, List, [], ◌∷◌, length, filter, sum_by}
+use Rattle.std.specs.Prelude.{slice_index, nat_lt, nat_eq, if◌then◌else◌}
 use Rattle.std.specs.List.{range_with_len}
 use Rattle.std.specs.Ordering.{nat_cmp}
 use Rattle.std.specs.FinSet as set
@@ -16,7 +18,8 @@ count_of told = length (numbers 256 told)
 abbrev pub weight : List ℕ → List ℕ → ℕ
 weight weights ks = sum_by (λ k. slice_index weights (k - 1)) ks
 
--- the lists differ at some place, and at the first such place the first list has the smaller number, or is at its end
+-- the lists differ at some place, and at the first such place the first list has the smaller
+-- number, or is at its end
 abbrev pub is_earlier_list : List ℕ → List ℕ → Bool
 is_earlier_list [] [] = false
 is_earlier_list [] (y ∷ ys) = true
@@ -25,12 +28,16 @@ is_earlier_list (x ∷ xs) (y ∷ ys) = if nat_eq x y then is_earlier_list xs ys
 
 -- fewer numbers, or as many and the earlier list
 abbrev pub is_smaller : List ℕ → List ℕ → Bool
-is_smaller xs ys = if nat_eq (length xs) (length ys) then is_earlier_list xs ys else nat_lt (length xs) (length ys)
+is_smaller xs ys =
+    if nat_eq (length xs) (length ys) then is_earlier_list xs ys else nat_lt (length xs) (length ys)
 
 -- a smaller total weight, or the same weight and smaller
 abbrev pub is_lighter : List ℕ → List ℕ → List ℕ → Bool
-is_lighter weights xs ys = if nat_eq (weight weights xs) (weight weights ys) then is_smaller xs ys else nat_lt (weight weights xs) (weight weights ys)
+is_lighter weights xs ys =
+    if nat_eq (weight weights xs) (weight weights ys) then is_smaller xs ys else nat_lt
+    (weight weights xs) (weight weights ys)
 
 -- one set of differences is before another
 abbrev pub is_before : List ℕ → set.FinSet nat_cmp → set.FinSet nat_cmp → Bool
-is_before weights one two = is_lighter weights (numbers (length weights) one) (numbers (length weights) two)
+is_before weights one two =
+    is_lighter weights (numbers (length weights) one) (numbers (length weights) two)

@@ -1,5 +1,7 @@
--- Finite sets of numbers: those below a bound that pass a test, a set's numbers in ascending order, and when two sets are one.
-use Rattle.std.specs.Prelude.{ℕ, zero, suc, ◌<◌, ◌≤◌, Bool, ◌&&◌, IsTrue, nat_eq, if◌then◌else◌, List, filter, refl}
+-- Finite sets of numbers: those below a bound that pass a test, a set's numbers in ascending order,
+-- and when two sets are one.
+use Rattle.std.specs.Prelude.{ℕ, zero, suc, ◌<◌, ◌≤◌, Bool, ◌&&◌, IsTrue, nat_eq, if◌then◌else◌}
+use Rattle.std.specs.Prelude.{List, filter, refl}
 use Rattle.std.specs.Coded.{Coded, code_by, coded×, coded_ℕ}
 use Rattle.std.specs.List.{range_with_len}
 use Rattle.std.specs.Ordering.{nat_cmp}
@@ -8,7 +10,8 @@ use Rattle.std.specs.FinSet as set
 -- the numbers below a bound that pass a test
 unfoldable pub set_below : (ℕ → Bool) → ℕ → set.FinSet nat_cmp
 set_below passes zero = set.empty
-set_below passes (suc n) = if passes n then set.insert (set_below passes n) n else set_below passes n
+set_below passes (suc n) =
+    if passes n then set.insert (set_below passes n) n else set_below passes n
 
 -- the numbers below a bound that are in a set, in ascending order
 abbrev pub numbers_below : ℕ → set.FinSet nat_cmp → List ℕ
@@ -30,7 +33,9 @@ pub record BitSet : Type 0 where
 -- a bit set is stored as the pair of its parts
 abbrev pub bit_set_code : Coded BitSet
 bit_set_code =
-    code_by (ℕ × set.FinSet nat_cmp) (coded× coded_ℕ (set.code coded_ℕ)) (λ bits. (bits.width, bits.members)) (λ pair. record { width = pair.0; members = pair.1 }) (λ _. refl)
+    code_by (ℕ × set.FinSet nat_cmp) (coded× coded_ℕ (set.code coded_ℕ))
+    (λ bits. (bits.width, bits.members)) (λ pair. record { width = pair.0; members = pair.1 })
+    (λ _. refl)
 
 -- each member is below the width
 abbrev pub AreBelow : BitSet → Type 0

@@ -1,5 +1,7 @@
--- Sets of numbers as the bits of words of 64 bits: bit k stands in word k / 64, at place k % 64 from the lowest.
-use Rattle.std.specs.Prelude.{◌≡◌, ◌≤◌, ◌++◌, length, ℕ, zero, suc, ◌+◌, ◌*◌, ◌/◌, ◌%◌, ◌^◌, ◌<◌, Bool, false, List, [], ◌∷◌, slice_index, nat_eq, if◌then◌else◌}
+-- Sets of numbers as the bits of words of 64 bits: bit k stands in word k / 64, at place k % 64
+-- from the lowest.
+use Rattle.std.specs.Prelude.{◌≡◌, ◌≤◌, ◌++◌, length, ℕ, zero, suc, ◌+◌, ◌*◌, ◌/◌, ◌%◌, ◌^◌, ◌<◌}
+use Rattle.std.specs.Prelude.{Bool, false, List, [], ◌∷◌, slice_index, nat_eq, if◌then◌else◌}
 use Rattle.std.specs.Int.{bit_at}
 use Rattle.std.specs.Ordering.{nat_cmp}
 use Rattle.std.specs.FinSet as set
@@ -23,10 +25,12 @@ has_place words (suc k) = has_bit words k
 abbrev pub places_in : List ℕ → set.FinSet nat_cmp
 places_in words = set_below (has_place words) 257
 
--- the number whose lowest bits say, one after another, which of the next so many numbers from one on pass
+-- the number whose lowest bits say, one after another, which of the next so many numbers from one
+-- on pass
 unfoldable pub word_from : (ℕ → Bool) → ℕ → ℕ → ℕ
 word_from passes first zero = 0
-word_from passes first (suc n) = (if passes (first + n) then 1 else 0) * 2 ^ n + word_from passes first n
+word_from passes first (suc n) =
+    (if passes (first + n) then 1 else 0) * 2 ^ n + word_from passes first n
 
 -- so many words of 64 bits that say which numbers from one on pass
 unfoldable pub words_from : (ℕ → Bool) → ℕ → ℕ → List ℕ
@@ -49,4 +53,6 @@ pub record HoldBits (width : ℕ) (words : List ℕ) : Type 0 where
 
 -- what a hash of a bit set reads: its width and its words
 abbrev pub hash_of_bits : BitSet → List (List ℕ)
-hash_of_bits bits = fed.u32 bits.width ++ fed.slice fed.u64 (words_from (set.contains bits.members) 0 (words_for bits.width))
+hash_of_bits bits =
+    fed.u32 bits.width ++ fed.slice fed.u64 (words_from (set.contains bits.members) 0
+    (words_for bits.width))

@@ -108,7 +108,8 @@ impl Bits {
         words::is_same(self.words.as_slice(), other.words.as_slice())
     }
 
-    /// Whether the ascending list of this set's numbers is before that of the other's: compared place by place, a proper
+    /// Whether the ascending list of this set's numbers is before that of the other's: compared
+    /// place by place, a proper
     /// prefix first.
     pub fn list_before(&self, other: &Bits) -> bool
         requires { self.now.width ≡ other.now.width }

@@ -1,11 +1,13 @@
-ghost use Rattle.std.specs.Prelude.{◌≡◌, ◌<◌, ◌↔◌, IsTrue, [], ◌∷◌, ◌++◌, length, slice_get, Some, IfOk, OnOk, OnErr};
+ghost use Rattle.std.specs.Prelude.{◌≡◌, ◌<◌, ◌↔◌, IsTrue, [], ◌∷◌, ◌++◌, length, slice_get, Some};
+ghost use Rattle.std.specs.Prelude.{IfOk, OnOk, OnErr};
 ghost use Rattle.std.specs.Borrow.{sem};
 
 use crate::NoMemory;
 use std::alloc::Global;
 use std::marker::Model;
 
-/// A growing list, seen as the list of its items. It may stand inside the type of its own items, as in a tree.
+/// A growing list, seen as the list of its items. It may stand inside the type of its own items, as
+/// in a tree.
 #[derive(Debug)]
 pub struct List<T> {
     items: Vec<T>,

@@ -1,10 +1,13 @@
 use crate::{Bits, Places};
 
-/// One step of a search as it stands in the log: a split of a cube of sets, a probe of one, or a state that was
-/// expanded. Told and left name the cube: the sets that contain what is told and nothing of what is left.
+/// One step of a search as it stands in the log: a split of a cube of sets, a probe of one, or a
+/// state that was
+/// expanded. Told and left name the cube: the sets that contain what is told and nothing of what is
+/// left.
 #[derive(Debug, Drop, PartialEq, Eq, Hash)]
 pub enum Node {
-    /// The cube was split at a place. `up` says whether it stands in a tree over the supersets of a set.
+    /// The cube was split at a place. `up` says whether it stands in a tree over the supersets of a
+    /// set.
     Split {
         up: bool,
         told: Places,

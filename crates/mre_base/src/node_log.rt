@@ -1,4 +1,5 @@
-ghost use Rattle.std.specs.Prelude.{◌≡◌, ◌≢◌, ◌<◌, ◌≤◌, [], ◌∷◌, ◌++◌, Some, length, slice_get, Contains, AllPairs, IsTrue, ◌↔◌, IfSome, IfNone, OnOk, OnErr};
+ghost use Rattle.std.specs.Prelude.{◌≡◌, ◌≢◌, ◌<◌, ◌≤◌, [], ◌∷◌, ◌++◌, Some, length, slice_get};
+ghost use Rattle.std.specs.Prelude.{Contains, AllPairs, IsTrue, ◌↔◌, IfSome, IfNone, OnOk, OnErr};
 
 use crate::{NoMemory, Node};
 use indexmap::IndexSet;

@@ -3,7 +3,8 @@ ghost use Rattle.std.specs.Prelude.{◌≡◌, ◌<◌, ◌+◌};
 use std::marker::Model;
 use std::sync::ledger::{Blank, Book, Ledger, Share};
 
-/// A counter for contracts: how many steps were taken. It takes no bytes when the program runs, and only `tick` changes it.
+/// A counter for contracts: how many steps were taken. It takes no bytes when the program runs, and
+/// only `tick` changes it.
 #[derive(Drop)]
 pub struct Steps<L: Ledger> {
     book: Book<L>,
@@ -21,7 +22,8 @@ impl<L: Ledger> Model for Steps<L> {
 }
 
 impl<L: Ledger> Steps<L> {
-    /// A counter that stands at 0, over a ledger that no other counter has: `Steps::start(Blank::new(1))`.
+    /// A counter that stands at 0, over a ledger that no other counter has:
+    /// `Steps::start(Blank::new(1))`.
     pub fn start(blank: Blank) -> Steps<L>
         requires name { blank.name ≡ L.name }
         requires parts { blank.parts ≡ L.parts }

@@ -1,5 +1,7 @@
-//! Sets of numbers as the bits of words: bit `k` stands in word `k / 64`, at place `k % 64` from the lowest.
-ghost use Rattle.std.specs.Prelude.{◌≡◌, ◌≢◌, ℕ, ◌+◌, ◌*◌, ◌^◌, ◌<◌, ◌≤◌, ◌↔◌, ◌||◌, ◌&&◌, not, length, nat_eq, IsTrue, slice_index, filter, fold};
+//! Sets of numbers as the bits of words: bit `k` stands in word `k / 64`, at place `k % 64` from
+//! the lowest.
+ghost use Rattle.std.specs.Prelude.{◌≡◌, ◌≢◌, ℕ, ◌+◌, ◌*◌, ◌^◌, ◌<◌, ◌≤◌, ◌↔◌, ◌||◌, ◌&&◌, not};
+ghost use Rattle.std.specs.Prelude.{length, nat_eq, IsTrue, slice_index, filter, fold};
 ghost use Rattle.std.specs.List.{range_with_len};
 ghost use Rattle.mre_base.specs.Before.{is_earlier_list};
 ghost use Rattle.std.specs.Hash as fed;
@@ -46,7 +48,8 @@ pub fn put_in(words: &mut SmallVec<u64, 2>, i: u32)
 /// The same as `take_out` for such words.
 pub fn take_out_of(words: &mut SmallVec<u64, 2>, i: u32)
     requires { i < 64 * length words.old.items }
-    ensures bits { (k : ℕ) → has_bit words.new.items k ≡ (not (nat_eq k i) && has_bit words.old.items k) }
+    ensures bits { (k : ℕ) → has_bit words.new.items k
+        ≡ (not (nat_eq k i) && has_bit words.old.items k) }
     ensures long { length words.new.items ≡ length words.old.items }
 {
     take_out(words.as_mut_slice(), i);
@@ -92,7 +95,8 @@ pub fn is_subset(one: &[u64], two: &[u64]) -> bool
 /// How many bits are set.
 pub fn count(words: &[u64]) -> u32
     requires { 64 * length words.now < 2 ^ 32 }
-    ensures { result ≡ length (filter (has_bit words.now) (range_with_len 0 (64 * length words.now))) }
+    ensures { result ≡ length (filter (has_bit words.now)
+        (range_with_len 0 (64 * length words.now))) }
 {
     let mut set = 0;
     for &word in words {
@@ -105,14 +109,16 @@ pub fn count(words: &[u64]) -> u32
 pub fn any_from(words: &[u64], i: usize, k: u32) -> bool
     requires word { i < length words.now }
     requires bit { k < 64 }
-    ensures { IsTrue result ↔ ((j : ℕ) × (64 * i + k ≤ j) × (j < 64 * length words.now) × IsTrue (has_bit words.now j)) }
+    ensures { IsTrue result ↔ ((j : ℕ) × (64 * i + k ≤ j) × (j < 64 * length words.now)
+        × IsTrue (has_bit words.now j)) }
 {
     words[i] >> k != 0 || any_word_from(words, i + 1)
 }
 
 /// Whether a word from word `i` on isn't 0.
 fn any_word_from(words: &[u64], i: usize) -> bool
-    ensures { IsTrue result ↔ ((j : ℕ) × (i ≤ j) × (j < length words.now) × (slice_index words.now j ≢ 0)) }
+    ensures { IsTrue result ↔ ((j : ℕ) × (i ≤ j) × (j < length words.now)
+        × (slice_index words.now j ≢ 0)) }
 {
     for j in i..words.len() {
         if words[j] != 0 {
@@ -122,10 +128,12 @@ fn any_word_from(words: &[u64], i: usize) -> bool
     false
 }
 
-/// Whether the ascending list of the numbers of `one` is before that of `two`, place by place, a proper prefix first.
+/// Whether the ascending list of the numbers of `one` is before that of `two`, place by place, a
+/// proper prefix first.
 pub fn is_list_before(one: &[u64], two: &[u64]) -> bool
     requires { length one.now ≡ length two.now }
-    ensures { result ≡ is_earlier_list (filter (has_bit one.now) (range_with_len 0 (64 * length one.now)))
+    ensures { result ≡ is_earlier_list (filter (has_bit one.now)
+        (range_with_len 0 (64 * length one.now)))
         (filter (has_bit two.now) (range_with_len 0 (64 * length one.now))) }
 {
     for (i, &word) in one.iter().enumerate() {
@@ -136,14 +144,16 @@ pub fn is_list_before(one: &[u64], two: &[u64]) -> bool
     false
 }
 
-/// The same, where word `i` is the first that differs. The lists agree up to its lowest bit that differs, and the list
+/// The same, where word `i` is the first that differs. The lists agree up to its lowest bit that
+/// differs, and the list
 /// with that number is the earlier one unless the other ends before it.
 fn is_list_before_at(one: &[u64], two: &[u64], i: usize) -> bool
     requires long { length one.now ≡ length two.now }
     requires within { i < length one.now }
     requires below { (j : ℕ) → j < i → slice_index one.now j ≡ slice_index two.now j }
     requires differs { slice_index one.now i ≢ slice_index two.now i }
-    ensures { result ≡ is_earlier_list (filter (has_bit one.now) (range_with_len 0 (64 * length one.now)))
+    ensures { result ≡ is_earlier_list (filter (has_bit one.now)
+        (range_with_len 0 (64 * length one.now)))
         (filter (has_bit two.now) (range_with_len 0 (64 * length one.now))) }
 {
     let k = (one[i] ^ two[i]).trailing_zeros();

@@ -5,7 +5,8 @@ use mre_outside::{MemoryShelf, MemorySink};
 use mre_top::{Outcome, explain_top};
 use std::alloc::Global;
 
-/// What a call leaves: how it ended, what was asked of the shelf, and what was written on both sinks.
+/// What a call leaves: how it ended, what was asked of the shelf, and what was written on both
+/// sinks.
 pub struct Left {
     pub outcome: Outcome,
     pub files: MemoryShelf,
@@ -77,7 +78,8 @@ fn left_by(
     })
 }
 
-/// How a call over these contents ends, and where it is said what fails, also what it asks of the shelf.
+/// How a call over these contents ends, and where it is said what fails, also what it asks of the
+/// shelf.
 pub fn call(
     alloc: Global,
     line: &str,

@@ -11,7 +11,8 @@ struct Named {
     text: String,
 }
 
-/// What the lines up to now have said: the texts, the one that isn't ended yet, and of the next call its words and what fails in it.
+/// What the lines up to now have said: the texts, the one that isn't ended yet, and of the next
+/// call its words and what fails in it.
 #[derive(Drop)]
 pub struct Cases {
     texts: Vec<Named>,

@@ -1,4 +1,5 @@
-/// Which read of the shelf, which write on the sink of answers and which write on the sink of faults fails, counted from 1. With 0 none
+/// Which read of the shelf, which write on the sink of answers and which write on the sink of
+/// faults fails, counted from 1. With 0 none
 /// does.
 #[derive(Clone, Copy)]
 pub struct Failing {

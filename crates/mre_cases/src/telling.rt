@@ -47,7 +47,8 @@ fn push_asked(text: &mut String, calls: &[ShelfCall]) -> Result<(), NoMemory> {
     Ok(())
 }
 
-/// How a call ended: its status and how many differences its answer tells, and then what it wrote on the sink of answers and on the sink
+/// How a call ended: its status and how many differences its answer tells, and then what it wrote
+/// on the sink of answers and on the sink
 /// of faults.
 pub fn ended(alloc: Global, left: &Left) -> Result<String, NoMemory> {
     let mut text = status_line(alloc, &left.outcome)?;

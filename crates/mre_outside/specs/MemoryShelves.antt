@@ -1,5 +1,6 @@
 -- A shelf in memory, and what a call on it does.
-use Rattle.std.specs.Prelude.{◌≡◌, ◌<◌, ◌≤◌, ℕ, ◌+◌, Some, IsSomeAnd, List, [], ◌++◌, length, count_by}
+use Rattle.std.specs.Prelude.{◌≡◌, ◌<◌, ◌≤◌, ℕ, ◌+◌, Some, IsSomeAnd, List, [], ◌++◌, length}
+use Rattle.std.specs.Prelude.{count_by}
 use Rattle.std.specs.FinMap as map
 use Rattle.mre_outside.specs.Failing.{Fails}
 use Rattle.mre_outside.specs.Shelves.{Files}

@@ -1,4 +1,5 @@
-ghost use Rattle.std.specs.Prelude.{◌≡◌, ◌⊎◌, ◌↔◌, ◌++◌, [], ◌∷◌, None, option_copied, IfOk, OnOk, OnErr, IsErrOf, IsTrue};
+ghost use Rattle.std.specs.Prelude.{◌≡◌, ◌⊎◌, ◌↔◌, ◌++◌, [], ◌∷◌, None, option_copied, IfOk, OnOk};
+ghost use Rattle.std.specs.Prelude.{OnErr, IsErrOf, IsTrue};
 ghost use Rattle.std.specs.FinMap as map;
 ghost use Rattle.mre_outside.specs.Kept.{kept_entries};
 ghost use Rattle.mre_outside.specs.Shelves.{first_under};
@@ -68,7 +69,8 @@ impl Model for MemoryShelf {
 }
 
 impl MemoryShelf {
-    ghost use Rattle.mre_outside.specs.MemoryShelves.{made_of, NextCallFails, Reads, IsTooLong, after_put};
+    ghost use Rattle.mre_outside.specs.MemoryShelves.{made_of, NextCallFails, Reads, IsTooLong};
+    ghost use Rattle.mre_outside.specs.MemoryShelves.{after_put};
     ghost use Rattle.mre_outside.specs.declared.shelf.Act.TheVariants.{Put};
     ghost use Rattle.mre_outside.specs.declared.failing.FailingCalls.TheVariants.{Listed, From};
 
@@ -163,7 +165,8 @@ impl Shelf for MemoryShelf {
     ghost use Rattle.std.specs.Prelude.{◌≡◌, ◌⊎◌, Some, None, OnOk, IfOk, IsErrOf};
     ghost use Rattle.std.specs.FinMap as map;
     ghost use Rattle.mre_outside.specs.Failing.{NoneFails, first_half};
-    ghost use Rattle.mre_outside.specs.MemoryShelves.{failed_calls, NextCallFails, Reads, IsTooLong, after_read, after_put};
+    ghost use Rattle.mre_outside.specs.MemoryShelves.{failed_calls, NextCallFails, Reads};
+    ghost use Rattle.mre_outside.specs.MemoryShelves.{IsTooLong, after_read, after_put};
     ghost use Rattle.mre_outside.specs.Shelves.{KeepsOthers, read_entry, put_entry};
 
     ghost held = { λ shelf. Some shelf.held };

@@ -1,7 +1,9 @@
-ghost use Rattle.std.specs.Prelude.{◌≡◌, ◌<◌, ◌≤◌, ◌++◌, ℕ, List, Option, Some, None, length, option_map, IfSome, IsSomeAnd, IfOk, OnOk, OnErr, IsErrOf};
+ghost use Rattle.std.specs.Prelude.{◌≡◌, ◌<◌, ◌≤◌, ◌++◌, ℕ, List, Option, Some, None, length};
+ghost use Rattle.std.specs.Prelude.{option_map, IfSome, IsSomeAnd, IfOk, OnOk, OnErr, IsErrOf};
 ghost use Rattle.std.specs.FinMap as map;
 ghost use Rattle.mre_outside.specs.Faults.{Rose};
-ghost use Rattle.mre_outside.specs.Shelves.{Files, BothTold, LeavesPart, KeepsOthers, read_entry, put_entry};
+ghost use Rattle.mre_outside.specs.Shelves.{Files, BothTold, LeavesPart, KeepsOthers, read_entry};
+ghost use Rattle.mre_outside.specs.Shelves.{put_entry};
 ghost use Rattle.mre_outside.specs.declared.shelf.ShelfCall.{ShelfCall};
 
 use mre_base::{NoMemory, Text};
@@ -71,7 +73,8 @@ pub trait Shelf {
     /// The bytes under each name, where it tells them.
     ghost held: { Self → Option Files };
 
-    /// The calls that it answered, in their order, where it tells them. One that was refused memory is
+    /// The calls that it answered, in their order, where it tells them. One that was refused memory
+    /// is
     /// not among them.
     ghost asked: { Self → Option (List ShelfCall) };
 

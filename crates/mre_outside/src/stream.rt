@@ -1,7 +1,8 @@
 // Readers and writers, called until all is read or written. Each `Err` of theirs is counted as a
 // fault. A call that was interrupted, as by a stop of the program at its terminal, is counted and
 // made again.
-ghost use Rattle.std.specs.Prelude.{◌≡◌, ◌+◌, ◌≤◌, ◌<◌, ◌++◌, [], length, vec_capacity, IfSome, IfOk, OnOk, IsErrOf, IsErr};
+ghost use Rattle.std.specs.Prelude.{◌≡◌, ◌+◌, ◌≤◌, ◌<◌, ◌++◌, [], length, vec_capacity, IfSome};
+ghost use Rattle.std.specs.Prelude.{IfOk, OnOk, IsErrOf, IsErr};
 ghost use Rattle.std.specs.Io.KnownBytes.{Appends};
 ghost use Rattle.mre_outside.specs.Faults.{one_more, Rose};
 ghost use Rattle.mre_outside.specs.Sinks.{AppendsPrefix};
@@ -47,7 +48,8 @@ pub(crate) fn raise(faults: &mut u64)
     *faults = faults.saturating_add(1);
 }
 
-/// Writes all the bytes. A writer that takes nothing has failed, and then a prefix of them may be written.
+/// Writes all the bytes. A writer that takes nothing has failed, and then a prefix of them may be
+/// written.
 pub fn write_to<W: Write>(writer: &mut W, bytes: &[u8], faults: &mut u64) -> Result<(), WriteFailed>
     ensures ok { OnOk result (Appends (W.contents writer.old) (W.contents writer.new) bytes.now) }
     ensures failed { IsErr result → Rose faults.old faults.new }

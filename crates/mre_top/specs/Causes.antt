@@ -1,4 +1,5 @@
--- What stands behind each refusal, and behind an answer: in the request, in what the shelf holds, and in the contents of the files.
+-- What stands behind each refusal, and behind an answer: in the request, in what the shelf holds,
+-- and in the contents of the files.
 use Rattle.std.specs.Prelude.{ℕ, ◌≡◌, ◌≢◌, List, [], Option, None, Some}
 use Rattle.std.specs.Ordering.{nat_cmp}
 use Rattle.std.specs.FinSet as set
@@ -13,7 +14,8 @@ use Rattle.request_answers.specs.Lines.{IsOfFile}
 use Rattle.request_answers.specs.Outputs.{IsAnswer}
 use Rattle.request_answers.specs.Ends.{EndsAt}
 use Rattle.mre_top.specs.declared.refusal.Refusal.{Refusal}
-use Rattle.mre_top.specs.declared.refusal.Refusal.TheVariants.{Usage, ReadFailed, WriteFailed, TooLong, Stopped, NoMemory}
+use Rattle.mre_top.specs.declared.refusal.Refusal.TheVariants.{Usage, ReadFailed, WriteFailed}
+use Rattle.mre_top.specs.declared.refusal.Refusal.TheVariants.{TooLong, Stopped, NoMemory}
 use Rattle.mre_top.specs.Reads.{AreRead, StopsReading, reads}
 
 -- ---- the contents of the files that a request names, or none where there is no request
@@ -27,8 +29,10 @@ pub record IsDueOf (asks : Option Request) (held : Option Files) (stop : AnswerS
   pub due : IsDue request contents stop
   pub some : stop ≢ Exhausted
 
--- the files can all be read, and this is printed about their contents, which tells the differences in the set
-pub record AreAnswered (asks : Option Request) (held : Option Files) (told : set.FinSet nat_cmp) (text : List ℕ) : Type 0 where
+-- the files can all be read, and this is printed about their contents, which tells the differences
+-- in the set
+pub record AreAnswered (asks : Option Request) (held : Option Files) (told : set.FinSet nat_cmp)
+    (text : List ℕ) : Type 0 where
   pub request : Request
   pub asked : asks ≡ Some request
   pub contents : List (List ℕ)
@@ -45,14 +49,17 @@ pub record EndWith (asks : Option Request) (held : Option Files) (status : ℕ) 
 
 -- something is printed about the files
 abbrev pub HaveAnswer : Option Request → Option Files → Type 0
-HaveAnswer asks held = (told : set.FinSet nat_cmp) × (text : List ℕ) × AreAnswered asks held told text
+HaveAnswer asks held =
+    (told : set.FinSet nat_cmp) × (text : List ℕ) × AreAnswered asks held told text
 
 -- ---- refusals
 
--- why a call with this request, or with none, ended so, where the shelf held this, and what it asked of the shelf until then
+-- why a call with this request, or with none, ended so, where the shelf held this, and what it
+-- asked of the shelf until then
 abbrev pub IsCause : Option Request → Option Files → Refusal → List ShelfCall → Type 0
 IsCause asks held Usage calls = (asks ≡ None) × (calls ≡ [])
-IsCause asks held (ReadFailed file) calls = StopsReading (names_in asks) held (ReadFailed file) calls
+IsCause asks held (ReadFailed file) calls =
+    StopsReading (names_in asks) held (ReadFailed file) calls
 IsCause asks held (TooLong file) calls = StopsReading (names_in asks) held (TooLong file) calls
 IsCause asks held NoMemory calls = StopsReading (names_in asks) held NoMemory calls
 IsCause asks held WriteFailed calls = HaveAnswer asks held × (calls ≡ reads (names_in asks))

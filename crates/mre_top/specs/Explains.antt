@@ -1,5 +1,7 @@
--- What status 0 says: what the request asks for was printed about the contents of its files. For an explanation: the files are texts of
--- two models and a plan that is cheapest in the planner's model, the answer is the MCE of their task, and the explanation that tells it
+-- What status 0 says: what the request asks for was printed about the contents of its files. For an
+-- explanation: the files are texts of
+-- two models and a plan that is cheapest in the planner's model, the answer is the MCE of their
+-- task, and the explanation that tells it
 -- was printed.
 use Rattle.std.specs.Prelude.{◌≡◌, ℕ, true, false, Bool, List, Option, None, Some}
 use Rattle.std.specs.Io.KnownBytes.{Appends}
@@ -36,7 +38,8 @@ answer_in (Some (PlanPatch files)) told = None
 answer_in None told = None
 
 -- the request was carried out: each file was read once, and what is printed about them was written
-pub record IsCarriedOut (asks : Option Request) (held : Option Files) (asked_old asked_new : Option (List ShelfCall)) (old new : Option (List ℕ))
+pub record IsCarriedOut (asks : Option Request) (held : Option Files)
+    (asked_old asked_new : Option (List ShelfCall)) (old new : Option (List ℕ))
     (answer : Option Answer) : Type 0 where
   pub told : set.FinSet nat_cmp
   pub text : List ℕ
@@ -45,8 +48,10 @@ pub record IsCarriedOut (asks : Option Request) (held : Option Files) (asked_old
   pub asked : asked_new ≡ asked_then asked_old (reads (names_in asks))
   pub written : Appends old new text
 
--- the files with these names are explained by the answer, each was read once, and the explanation was written
-pub record Explains (kind : Kind) (names : List (List ℕ)) (held : Option Files) (asked_old asked_new : Option (List ShelfCall)) (old new : Option (List ℕ))
+-- the files with these names are explained by the answer, each was read once, and the explanation
+-- was written
+pub record Explains (kind : Kind) (names : List (List ℕ)) (held : Option Files)
+    (asked_old asked_new : Option (List ShelfCall)) (old new : Option (List ℕ))
     (answer : Answer) : Type 0 where
   pub contents : List (List ℕ)
   pub read : AreRead held names contents

@@ -1,5 +1,7 @@
--- What a status by itself says: the refusal that stands behind it, and the lines that tell it; and which status is due.
-use Rattle.std.specs.Prelude.{◌≡◌, ◌⊎◌, ◌≤◌, ◌<◌, ◌+◌, ℕ, true, List, [], ◌∷◌, ◌++◌, take, length, Option}
+-- What a status by itself says: the refusal that stands behind it, and the lines that tell it; and
+-- which status is due.
+use Rattle.std.specs.Prelude.{◌≡◌, ◌⊎◌, ◌≤◌, ◌<◌, ◌+◌, ℕ, true, List, [], ◌∷◌, ◌++◌, take, length}
+use Rattle.std.specs.Prelude.{Option}
 use Rattle.mre_outside.specs.Shelves.{Files}
 use Rattle.mre_outside.specs.declared.shelf.ShelfCall.{ShelfCall}
 use Rattle.mre_top.specs.declared.refusal.Refusal.{Refusal}
@@ -7,13 +9,18 @@ use Rattle.mre_top.specs.declared.refusal.Refusal.TheVariants.{TooLong, Stopped}
 use Rattle.mre_words.specs.declared.request.Request.{Request}
 use Rattle.mre_words.specs.Requests.{names_in}
 use Rattle.request_answers.specs.declared.stop.AnswerStop.{AnswerStop}
-use Rattle.request_answers.specs.declared.stop.AnswerStop.TheVariants.{Misread, Unbuilt, TooManyParameters, TooManyObjects, TooManyDifferences, TooManySteps}
+use Rattle.request_answers.specs.declared.stop.AnswerStop.TheVariants.{Misread, Unbuilt}
+use Rattle.request_answers.specs.declared.stop.AnswerStop.TheVariants.{TooManyParameters}
+use Rattle.request_answers.specs.declared.stop.AnswerStop.TheVariants.{TooManyObjects}
+use Rattle.request_answers.specs.declared.stop.AnswerStop.TheVariants.{TooManyDifferences}
+use Rattle.request_answers.specs.declared.stop.AnswerStop.TheVariants.{TooManySteps}
 use Rattle.mre_top.specs.Reads.{asked_then, reads, read_of, name_at, IsTooLong}
 use Rattle.mre_top.specs.Causes.{IsCause}
 use Rattle.mre_top.specs.Telling.{IsWritten, told_by}
 
 -- the refusal has its cause, and its lines were written on the sink of faults
-pub record EndsBy (sound : Type 0) (asks : Option Request) (held : Option Files) (old new : Option (List ℕ)) (faults_old faults_new : ℕ) (refusal : Refusal) : Type 0 where
+pub record EndsBy (sound : Type 0) (asks : Option Request) (held : Option Files)
+    (old new : Option (List ℕ)) (faults_old faults_new : ℕ) (refusal : Refusal) : Type 0 where
   pub calls : List ShelfCall
   pub cause : IsCause asks held refusal calls
   pub lines : IsWritten sound (told_by (names_in asks) refusal) old new faults_old faults_new
@@ -42,14 +49,20 @@ IsPastLimit _ = ⊥
 abbrev pub IsUnlessEarlier : ℕ → ℕ → Type 0
 IsUnlessEarlier status due = (status ≡ due) ⊎ ((status ≡ 3) ⊎ (status ≡ 9))
 
--- the first names were read and none failed; these are all names, but at a status of the words, of want of memory or of a file's bytes
-pub record AsksInOrder (names : List (List ℕ)) (held : Option Files) (asked_old asked_new : Option (List ShelfCall)) (status : ℕ) : Type 0 where
+-- the first names were read and none failed; these are all names, but at a status of the words, of
+-- want of memory or of a file's bytes
+pub record AsksInOrder (names : List (List ℕ)) (held : Option Files)
+    (asked_old asked_new : Option (List ShelfCall)) (status : ℕ) : Type 0 where
   pub count : ℕ
   pub within : count ≤ length names
   pub asked : asked_new ≡ asked_then asked_old (reads (take count names))
-  pub whole : (count ≡ length names) ⊎ ((status ≡ 2) ⊎ ((status ≡ 9) ⊎ ((status ≡ 7) × (file : ℕ) × (count ≡ file + 1) × IsTooLong held (name_at names file))))
+  pub whole : (count ≡ length names) ⊎ ((status ≡ 2)
+      ⊎ ((status ≡ 9) ⊎ ((status ≡ 7) × (file : ℕ) × (count ≡ file + 1)
+      × IsTooLong held (name_at names file))))
 
 -- the names were read in their order up to one, and its reading failed
-pub record AsksUpTo (names : List (List ℕ)) (asked_old asked_new : Option (List ShelfCall)) (file : ℕ) : Type 0 where
+pub record AsksUpTo (names : List (List ℕ)) (asked_old asked_new : Option (List ShelfCall))
+    (file : ℕ) : Type 0 where
   pub within : file < length names
-  pub asked : asked_new ≡ asked_then asked_old (reads (take file names) ++ read_of true (name_at names file) ∷ [])
+  pub asked : asked_new ≡ asked_then asked_old (reads (take file names)
+      ++ read_of true (name_at names file) ∷ [])

@@ -1,5 +1,7 @@
 -- What the reads of a request's files ask of the shelf, and what they get from it.
-use Rattle.std.specs.Prelude.{◌≡◌, ◌≤◌, ◌<◌, ◌+◌, ℕ, Bool, true, false, List, [], ◌∷◌, ◌++◌, length, map, take, Option, None, Some, Result, Ok, Err, option_map, IfSome, IsSomeAnd}
+use Rattle.std.specs.Prelude.{◌≡◌, ◌≤◌, ◌<◌, ◌+◌, ℕ, Bool, true, false, List, [], ◌∷◌, ◌++◌, length}
+use Rattle.std.specs.Prelude.{map, take, Option, None, Some, Result, Ok, Err, option_map, IfSome}
+use Rattle.std.specs.Prelude.{IsSomeAnd}
 use Rattle.std.specs.FinMap as files_map
 use Rattle.mre_outside.specs.Shelves.{Files}
 use Rattle.mre_outside.specs.declared.shelf.Act.TheVariants.{Read}
@@ -21,8 +23,10 @@ reads names = map (read_of false) names
 abbrev pub asked_then : Option (List ShelfCall) → List ShelfCall → Option (List ShelfCall)
 asked_then asked calls = option_map (λ before. before ++ calls) asked
 
--- these are all the bytes under the names, one each, where the shelf tells what it holds, and none are more than a file may have
-pub record AreRead (held : Option Files) (names : List (List ℕ)) (contents : List (List ℕ)) : Type 0 where
+-- these are all the bytes under the names, one each, where the shelf tells what it holds, and none
+-- are more than a file may have
+pub record AreRead (held : Option Files) (names : List (List ℕ))
+    (contents : List (List ℕ)) : Type 0 where
   pub counted : length contents ≡ length names
   pub whole : IfSome held (λ files. map (files_map.get files) names ≡ map Some contents)
   pub within : AreShort contents
@@ -33,34 +37,47 @@ AreReadable held names = (contents : List (List ℕ)) × AreRead held names cont
 
 -- more bytes than a file may have stand under the name, where the shelf tells
 abbrev pub IsTooLong : Option Files → List ℕ → Type 0
-IsTooLong held name = IfSome held (λ files. IsSomeAnd (files_map.get files name) (λ bytes. file_limit < length bytes))
+IsTooLong held name =
+    IfSome held (λ files. IsSomeAnd (files_map.get files name) (λ bytes. file_limit < length bytes))
 
 -- a file is too long, and each before it can be read whole
 abbrev pub IsFirstTooLong : Option Files → List (List ℕ) → Type 0
-IsFirstTooLong held names = (file : ℕ) × (file < length names) × AreReadable held (take file names) × IsTooLong held (name_at names file)
+IsFirstTooLong held names =
+    (file : ℕ) × (file < length names) × AreReadable held (take file names)
+    × IsTooLong held (name_at names file)
 
--- the reading of the names, one after another, ended so at the first that was not read whole, or memory ran out after some of them; and these were the calls
+-- the reading of the names, one after another, ended so at the first that was not read whole, or
+-- memory ran out after some of them; and these were the calls
 abbrev pub StopsReading : List (List ℕ) → Option Files → Refusal → List ShelfCall → Type 0
 StopsReading names held (ReadFailed file) calls =
-    (file < length names) × AreReadable held (take file names) × (calls ≡ reads (take file names) ++ read_of true (name_at names file) ∷ [])
+    (file < length names) × AreReadable held (take file names)
+    × (calls ≡ reads (take file names) ++ read_of true (name_at names file) ∷ [])
 StopsReading names held (TooLong file) calls =
-    (file < length names) × AreReadable held (take file names) × IsTooLong held (name_at names file) × (calls ≡ reads (take (file + 1) names))
-StopsReading names held NoMemory calls = (count : ℕ) × (count ≤ length names) × (calls ≡ reads (take count names))
+    (file < length names) × AreReadable held (take file names) × IsTooLong held (name_at names file)
+    × (calls ≡ reads (take (file + 1) names))
+StopsReading names held NoMemory calls =
+    (count : ℕ) × (count ≤ length names) × (calls ≡ reads (take count names))
 StopsReading names held _ calls = ⊥
 
 -- the reading ended so, and the shelf tells the calls that it asked
-abbrev pub Stops : List (List ℕ) → Option Files → Option (List ShelfCall) → Option (List ShelfCall) → Refusal → Type 0
-Stops names held asked_old asked_new refusal = (calls : List ShelfCall) × StopsReading names held refusal calls × (asked_new ≡ asked_then asked_old calls)
+abbrev pub Stops : List (List ℕ) → Option Files → Option (List ShelfCall) → Option (List ShelfCall)
+    → Refusal → Type 0
+Stops names held asked_old asked_new refusal =
+    (calls : List ShelfCall) × StopsReading names held refusal calls
+    × (asked_new ≡ asked_then asked_old calls)
 
 -- a sound shelf fails only at a name that it doesn't hold
 abbrev pub LacksOne : Option Files → List (List ℕ) → Type 0
-LacksOne held names = IfSome held (λ files. (file : ℕ) × (file < length names) × (files_map.get files (name_at names file) ≡ None))
+LacksOne held names =
+    IfSome held (λ files. (file : ℕ) × (file < length names)
+    × (files_map.get files (name_at names file) ≡ None))
 
 -- nothing stands under the name, where the shelf tells what it holds
 abbrev pub IsMissing : Option Files → List ℕ → Type 0
 IsMissing held name = IfSome held (λ files. files_map.get files name ≡ None)
 
--- where the refusal is that the shelf failed at a reading, nothing stands under the name of the very file that it tells
+-- where the refusal is that the shelf failed at a reading, nothing stands under the name of the
+-- very file that it tells
 abbrev pub IsMissingWhereFailed : Option Files → List (List ℕ) → Refusal → Type 0
 IsMissingWhereFailed held names (ReadFailed file) = IsMissing held (name_at names file)
 IsMissingWhereFailed held names _ = Unit {0}

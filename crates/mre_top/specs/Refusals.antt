@@ -1,9 +1,11 @@
 -- Why a call isn't carried out: the status, and the lines that tell it.
 use Rattle.std.specs.Prelude.{◌<◌, ℕ, List, [], ◌∷◌, ◌++◌, length, codes}
 use Rattle.mre_top.specs.declared.refusal.Refusal.{Refusal}
-use Rattle.mre_top.specs.declared.refusal.Refusal.TheVariants.{Usage, ReadFailed, WriteFailed, TooLong, Stopped, NoMemory}
+use Rattle.mre_top.specs.declared.refusal.Refusal.TheVariants.{Usage, ReadFailed, WriteFailed}
+use Rattle.mre_top.specs.declared.refusal.Refusal.TheVariants.{TooLong, Stopped, NoMemory}
 use Rattle.request_answers.specs.Lines.{line, name_at}
-use Rattle.request_answers.specs.Lines.{status_of as stop_status, lines_of as stop_lines, IsOfFile as IsStopOfFile}
+use Rattle.request_answers.specs.Lines.{status_of as stop_status, lines_of as stop_lines}
+use Rattle.request_answers.specs.Lines.{IsOfFile as IsStopOfFile}
 
 abbrev pub status_of : Refusal → ℕ
 status_of Usage = 2
@@ -19,10 +21,13 @@ memory_line = line (codes "mre: out of memory")
 
 -- the lines that tell a refusal, where the files have these names
 abbrev pub lines_of : List (List ℕ) → Refusal → List (List ℕ)
-lines_of names Usage = line (codes "mre: usage: explain, check, diff, patch, plan-patch or gen") ∷ []
-lines_of names (ReadFailed file) = (codes "mre: " ++ (name_at names file ++ line (codes ": read failed"))) ∷ []
+lines_of names Usage =
+    line (codes "mre: usage: explain, check, diff, patch, plan-patch or gen") ∷ []
+lines_of names (ReadFailed file) =
+    (codes "mre: " ++ (name_at names file ++ line (codes ": read failed"))) ∷ []
 lines_of names WriteFailed = line (codes "mre: write failed") ∷ []
-lines_of names (TooLong file) = (codes "mre: bytes of " ++ (name_at names file ++ line (codes " 4194305 limit 4194304"))) ∷ []
+lines_of names (TooLong file) =
+    (codes "mre: bytes of " ++ (name_at names file ++ line (codes " 4194305 limit 4194304"))) ∷ []
 lines_of names (Stopped stop) = stop_lines names stop
 lines_of names NoMemory = memory_line ∷ []
 

@@ -1,6 +1,7 @@
 ghost use Rattle.std.specs.Prelude.{◌≡◌, ◌<◌, ◌≤◌, length, map, OnOk, IfOk, IfErr};
 ghost use Rattle.mre_outside.specs.Faults.{Rose};
-ghost use Rattle.mre_top.specs.Reads.{AreRead, Stops, IsReadFailed, IsMissingWhereFailed, asked_then, reads, name_at, IsRead, StopsAt, calls_of};
+ghost use Rattle.mre_top.specs.Reads.{AreRead, Stops, IsReadFailed, IsMissingWhereFailed};
+ghost use Rattle.mre_top.specs.Reads.{asked_then, reads, name_at, IsRead, StopsAt, calls_of};
 
 use crate::Refusal;
 use mre_base::{List, Text};
@@ -18,11 +19,16 @@ pub fn read_files<H: Shelf>(
 ) -> Result<List<Vec<u8>>, Refusal>
     ensures held { H.held shelf.new ≡ H.held shelf.old }
     ensures never_falls { H.faults shelf.old ≤ H.faults shelf.new }
-    ensures contents { IfOk result (λ contents. AreRead (H.held shelf.old) files.now (map (λ bytes. bytes.items) contents)) }
-    ensures asked { OnOk result (H.asked shelf.new ≡ asked_then (H.asked shelf.old) (reads files.now)) }
-    ensures err { IfErr result (Stops files.now (H.held shelf.old) (H.asked shelf.old) (H.asked shelf.new)) }
-    ensures failed { IfErr result (λ refusal. IsReadFailed refusal → Rose (H.faults shelf.old) (H.faults shelf.new)) }
-    ensures sound { H.is_sound shelf.old → IfErr result (IsMissingWhereFailed (H.held shelf.old) files.now) }
+    ensures contents { IfOk result (λ contents. AreRead (H.held shelf.old) files.now
+        (map (λ bytes. bytes.items) contents)) }
+    ensures asked { OnOk result (H.asked shelf.new
+        ≡ asked_then (H.asked shelf.old) (reads files.now)) }
+    ensures err { IfErr result (Stops files.now (H.held shelf.old) (H.asked shelf.old)
+        (H.asked shelf.new)) }
+    ensures failed { IfErr result (λ refusal. IsReadFailed refusal
+        → Rose (H.faults shelf.old) (H.faults shelf.new)) }
+    ensures sound { H.is_sound shelf.old
+        → IfErr result (IsMissingWhereFailed (H.held shelf.old) files.now) }
     ensures stays_sound { H.is_sound shelf.old → H.is_sound shelf.new }
 {
     let mut contents = List::empty(alloc);
@@ -44,11 +50,15 @@ fn read_file<H: Shelf>(shelf: &mut H, files: &List<Text>, file: usize) -> Result
     requires { file < length files.now }
     ensures held { H.held shelf.new ≡ H.held shelf.old }
     ensures never_falls { H.faults shelf.old ≤ H.faults shelf.new }
-    ensures read { IfOk result (λ bytes. IsRead (H.held shelf.old) (name_at files.now file) bytes.items) }
-    ensures asked { H.asked shelf.new ≡ asked_then (H.asked shelf.old) (calls_of (name_at files.now file) result) }
+    ensures read { IfOk result (λ bytes. IsRead (H.held shelf.old) (name_at files.now file)
+        bytes.items) }
+    ensures asked { H.asked shelf.new ≡ asked_then (H.asked shelf.old) (calls_of
+        (name_at files.now file) result) }
     ensures err { IfErr result (StopsAt files.now file (H.held shelf.old)) }
-    ensures failed { IfErr result (λ refusal. IsReadFailed refusal → Rose (H.faults shelf.old) (H.faults shelf.new)) }
-    ensures sound { H.is_sound shelf.old → IfErr result (IsMissingWhereFailed (H.held shelf.old) files.now) }
+    ensures failed { IfErr result (λ refusal. IsReadFailed refusal
+        → Rose (H.faults shelf.old) (H.faults shelf.new)) }
+    ensures sound { H.is_sound shelf.old
+        → IfErr result (IsMissingWhereFailed (H.held shelf.old) files.now) }
     ensures stays_sound { H.is_sound shelf.old → H.is_sound shelf.new }
 {
     match shelf.read(files.item(file).as_str(), FILE_LIMIT) {

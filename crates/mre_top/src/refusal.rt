@@ -8,7 +8,8 @@ use std::alloc::Global;
 
 const USAGE: &str = "mre: usage: explain, check, diff, patch, plan-patch or gen\n";
 
-/// Why a call isn't carried out. A `file` is the place of a name among those of the request, counted from 0.
+/// Why a call isn't carried out. A `file` is the place of a name among those of the request,
+/// counted from 0.
 #[derive(Debug, Drop)]
 pub enum Refusal {
     /// The words make no request.

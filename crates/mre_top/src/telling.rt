@@ -8,11 +8,13 @@ use mre_base::{List, Text};
 use mre_outside::{Sink, SinkStop};
 use std::alloc::Global;
 
-/// Tells a refusal on the sink of faults, and gives the status that the call ends with. Where a line finds no memory
+/// Tells a refusal on the sink of faults, and gives the status that the call ends with. Where a
+/// line finds no memory
 /// that is the status of want of memory; a write that fails changes nothing of it.
 pub fn tell<E: Sink>(alloc: Global, refusal: &Refusal, files: &List<Text>, faults: &mut E) -> u8
     requires { IsOfFile files.now refusal.now }
-    ensures told { IsTold (E.is_sound faults.old) files.now refusal.now result (E.written faults.old) (E.written faults.new)
+    ensures told { IsTold (E.is_sound faults.old) files.now refusal.now result
+        (E.written faults.old) (E.written faults.new)
         (E.faults faults.old) (E.faults faults.new) }
     ensures never_falls { E.faults faults.old ≤ E.faults faults.new }
     ensures stays_sound { E.is_sound faults.old → E.is_sound faults.new }
@@ -33,7 +35,8 @@ pub fn tell<E: Sink>(alloc: Global, refusal: &Refusal, files: &List<Text>, fault
 fn tell_no_memory<E: Sink>(faults: &mut E) -> u8
     ensures status { result ≡ 9 }
     ensures told { (E.written faults.new ≡ E.written faults.old)
-        ⊎ IsWritten (E.is_sound faults.old) memory_line (E.written faults.old) (E.written faults.new)
+        ⊎ IsWritten (E.is_sound faults.old) memory_line (E.written faults.old)
+        (E.written faults.new)
         (E.faults faults.old) (E.faults faults.new) }
     ensures never_falls { E.faults faults.old ≤ E.faults faults.new }
     ensures stays_sound { E.is_sound faults.old → E.is_sound faults.new }

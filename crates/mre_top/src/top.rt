@@ -9,7 +9,8 @@ ghost use Rattle.mre_words.specs.declared.request.Request.TheVariants.{Explain};
 ghost use Rattle.joint_models.specs.declared.stop.PairFault.{PairFault};
 ghost use Rattle.request_answers.specs.declared.stop.PlanFault.{PlanFault};
 ghost use Rattle.request_answers.specs.declared.stop.AnswerStop.{AnswerStop};
-ghost use Rattle.request_answers.specs.declared.stop.AnswerStop.TheVariants.{Disagree, NotValid, NotCheapest};
+ghost use Rattle.request_answers.specs.declared.stop.AnswerStop.TheVariants.{Disagree, NotValid};
+ghost use Rattle.request_answers.specs.declared.stop.AnswerStop.TheVariants.{NotCheapest};
 ghost use Rattle.request_answers.specs.Outputs.{AsksMce, IsAnswer};
 ghost use Rattle.request_answers.specs.Texts.{AreShort};
 ghost use Rattle.request_answers.specs.Lines.{IsLine};
@@ -19,8 +20,10 @@ ghost use Rattle.mre_top.specs.declared.refusal.Refusal.TheVariants.{ReadFailed,
 ghost use Rattle.mre_top.specs.Causes.{IsDueOf, EndWith, IsOfContents, IsOfFileCount};
 ghost use Rattle.mre_top.specs.Endings.{IsRefused, IsCutShort, IsCutByFault, IsCutAtLine, Leaves};
 ghost use Rattle.mre_top.specs.Explains.{IsCarriedOut, Explains, asks_to_explain, answer_in};
-ghost use Rattle.mre_top.specs.Outcomes.{EndsBy, IsPastLimit, IsOfText, IsUnlessEarlier, AsksInOrder, AsksUpTo};
-ghost use Rattle.mre_top.specs.Reads.{IsReadFailed, IsFirstTooLong, LacksOne, IsMissing, IsMissingWhereFailed, name_at};
+ghost use Rattle.mre_top.specs.Outcomes.{EndsBy, IsPastLimit, IsOfText, IsUnlessEarlier};
+ghost use Rattle.mre_top.specs.Outcomes.{AsksInOrder, AsksUpTo};
+ghost use Rattle.mre_top.specs.Reads.{IsReadFailed, IsFirstTooLong, LacksOne, IsMissing};
+ghost use Rattle.mre_top.specs.Reads.{IsMissingWhereFailed, name_at};
 ghost use Rattle.mre_top.specs.Refusals.{status_of, IsOfFile, IsWriteFailed};
 ghost use Rattle.mre_top.specs.Telling.{IsTold};
 
@@ -64,9 +67,12 @@ impl Drop for Outcome {
     }
 }
 
-/// Does everything that the program does: takes its words, the shelf that holds the files, and two sinks, one
-/// for answers and one for refusals. An explanation of models with parameters or cost functions, with more than 64 predicates or
-/// actions, or with 17 to 256 differences can't be searched for yet: where nothing else is wrong with its files and the plan is valid,
+/// Does everything that the program does: takes its words, the shelf that holds the files, and two
+/// sinks, one
+/// for answers and one for refusals. An explanation of models with parameters or cost functions,
+/// with more than 64 predicates or
+/// actions, or with 17 to 256 differences can't be searched for yet: where nothing else is wrong
+/// with its files and the plan is valid,
 /// it ends with status 5.
 pub fn explain_top<H: Shelf, S: Sink, E: Sink>(
     alloc: Global,
@@ -75,8 +81,10 @@ pub fn explain_top<H: Shelf, S: Sink, E: Sink>(
     out: &mut S,
     faults: &mut E,
 ) -> Outcome
-    // Status 0: what the words ask for was printed. An explanation is the MCE of what the files say.
-    ensures carried_out { result.status ≡ 0 → IsCarriedOut (requested (map string_bytes words.now)) (H.held shelf.old)
+    // Status 0: what the words ask for was printed. An explanation is the MCE of what the files
+    // say.
+    ensures carried_out { result.status ≡ 0
+        → IsCarriedOut (requested (map string_bytes words.now)) (H.held shelf.old)
         (H.asked shelf.old) (H.asked shelf.new) (S.written out.old) (S.written out.new) result.answer }
     ensures explained { result.status ≡ 0 → (kind : AnyKind) (names : ListOf (ListOf ℕ))
         → requested (map string_bytes words.now) ≡ Some (Explain kind names)
@@ -84,17 +92,24 @@ pub fn explain_top<H: Shelf, S: Sink, E: Sink>(
         × Explains kind names (H.held shelf.old)
         (H.asked shelf.old) (H.asked shelf.new) (S.written out.old) (S.written out.new) answer }
     ensures silent { result.status ≡ 0 → faults.new ≡ faults.old }
-    ensures answer { IsSome result.answer ↔ ((result.status ≡ 0) × IsTrue (asks_to_explain (requested (map string_bytes words.now)))) }
+    ensures answer { IsSome result.answer
+        ↔ ((result.status ≡ 0) × IsTrue (asks_to_explain (requested
+        (map string_bytes words.now)))) }
 
-    // Every other status: why it refused, what it asked of the shelf until then, what it left on `out`, and what
+    // Every other status: why it refused, what it asked of the shelf until then, what it left on
+    // `out`, and what
     // it told on `faults`.
     ensures refused { result.status ≢ 0 → (refusal : Refusal)
-        × IsRefused (requested (map string_bytes words.now)) (H.held shelf.old) (H.asked shelf.old) (H.asked shelf.new) refusal
-        × Leaves S.written S.faults S.is_sound (requested (map string_bytes words.now)) (H.held shelf.old) out.old out.new refusal
-        × IsTold (E.is_sound faults.old) (names_in (requested (map string_bytes words.now))) refusal result.status
+        × IsRefused (requested (map string_bytes words.now)) (H.held shelf.old) (H.asked shelf.old)
+        (H.asked shelf.new) refusal
+        × Leaves S.written S.faults S.is_sound (requested (map string_bytes words.now))
+        (H.held shelf.old) out.old out.new refusal
+        × IsTold (E.is_sound faults.old) (names_in (requested (map string_bytes words.now))) refusal
+        result.status
         (E.written faults.old) (E.written faults.new) (E.faults faults.old) (E.faults faults.new)
         × (H.is_sound shelf.old
-        → IsMissingWhereFailed (H.held shelf.old) (names_in (requested (map string_bytes words.now))) refusal) }
+        → IsMissingWhereFailed (H.held shelf.old)
+        (names_in (requested (map string_bytes words.now))) refusal) }
 
     // Each status by itself.
     ensures usage { result.status ≡ 2 → requested (map string_bytes words.now) ≡ None }
@@ -105,22 +120,28 @@ pub fn explain_top<H: Shelf, S: Sink, E: Sink>(
     ensures cut_short { result.status ≡ 4 → IsCutShort (requested (map string_bytes words.now))
         (H.held shelf.old) (S.written out.old) (S.written out.new) }
     ensures misread { result.status ≡ 5 → (stop : AnswerStop) × IsOfText stop
-        × EndsBy (E.is_sound faults.old) (requested (map string_bytes words.now)) (H.held shelf.old) (E.written faults.old) (E.written faults.new)
+        × EndsBy (E.is_sound faults.old) (requested (map string_bytes words.now)) (H.held shelf.old)
+        (E.written faults.old) (E.written faults.new)
         (E.faults faults.old) (E.faults faults.new) (Stopped stop) }
     ensures disagree { result.status ≡ 6 → (fault : PairFault)
-        × EndsBy (E.is_sound faults.old) (requested (map string_bytes words.now)) (H.held shelf.old) (E.written faults.old) (E.written faults.new)
+        × EndsBy (E.is_sound faults.old) (requested (map string_bytes words.now)) (H.held shelf.old)
+        (E.written faults.old) (E.written faults.new)
         (E.faults faults.old) (E.faults faults.new) (Stopped (Disagree fault)) }
     ensures past_limit { result.status ≡ 7 → (refusal : Refusal) × IsPastLimit refusal
-        × EndsBy (E.is_sound faults.old) (requested (map string_bytes words.now)) (H.held shelf.old) (E.written faults.old) (E.written faults.new)
+        × EndsBy (E.is_sound faults.old) (requested (map string_bytes words.now)) (H.held shelf.old)
+        (E.written faults.old) (E.written faults.new)
         (E.faults faults.old) (E.faults faults.new) refusal }
     ensures not_valid { result.status ≡ 10 → (fault : PlanFault)
-        × EndsBy (E.is_sound faults.old) (requested (map string_bytes words.now)) (H.held shelf.old) (E.written faults.old) (E.written faults.new)
+        × EndsBy (E.is_sound faults.old) (requested (map string_bytes words.now)) (H.held shelf.old)
+        (E.written faults.old) (E.written faults.new)
         (E.faults faults.old) (E.faults faults.new) (Stopped (NotValid fault)) }
     ensures not_cheapest { result.status ≡ 11 → (cost other : ℕ) × (steps : ListOf (ListOf ℕ))
-        × EndsBy (E.is_sound faults.old) (requested (map string_bytes words.now)) (H.held shelf.old) (E.written faults.old) (E.written faults.new)
+        × EndsBy (E.is_sound faults.old) (requested (map string_bytes words.now)) (H.held shelf.old)
+        (E.written faults.old) (E.written faults.new)
         (E.faults faults.old) (E.faults faults.new) (Stopped (NotCheapest cost other steps)) }
 
-    // The other way, where the shelf tells: what the files say settles the status, but for a failed read and want
+    // The other way, where the shelf tells: what the files say settles the status, but for a failed
+    // read and want
     // of memory.
     ensures due { IsSome (H.held shelf.old) → (stop : AnswerStop)
         → IsDueOf (requested (map string_bytes words.now)) (H.held shelf.old) stop
@@ -130,26 +151,32 @@ pub fn explain_top<H: Shelf, S: Sink, E: Sink>(
         → IsUnlessEarlier result.status 7 }
     ensures complete { IsSome (H.held shelf.old)
         → EndWith (requested (map string_bytes words.now)) (H.held shelf.old) 0
-        → ¬ Rose (H.faults shelf.old) (H.faults shelf.new) → ¬ Rose (S.faults out.old) (S.faults out.new)
+        → ¬ Rose (H.faults shelf.old) (H.faults shelf.new)
+        → ¬ Rose (S.faults out.old) (S.faults out.new)
         → (result.status ≡ 0) ⊎ (result.status ≡ 9) }
 
-    // What was asked of the shelf: one read of each file in their order, up to one that failed or the last that
+    // What was asked of the shelf: one read of each file in their order, up to one that failed or
+    // the last that
     // was needed.
     ensures asked { result.status ≢ 3 → result.status ≢ 9
         → AsksInOrder (names_in (requested (map string_bytes words.now))) (H.held shelf.old)
         (H.asked shelf.old) (H.asked shelf.new) result.status }
     ensures asked_in_vain { result.status ≡ 3 → (file : ℕ)
-        × AsksUpTo (names_in (requested (map string_bytes words.now))) (H.asked shelf.old) (H.asked shelf.new) file
-        × EndsBy (E.is_sound faults.old) (requested (map string_bytes words.now)) (H.held shelf.old) (E.written faults.old) (E.written faults.new)
+        × AsksUpTo (names_in (requested (map string_bytes words.now))) (H.asked shelf.old)
+        (H.asked shelf.new) file
+        × EndsBy (E.is_sound faults.old) (requested (map string_bytes words.now)) (H.held shelf.old)
+        (E.written faults.old) (E.written faults.new)
         (E.faults faults.old) (E.faults faults.new) (ReadFailed file)
         × (H.is_sound shelf.old
-        → IsMissing (H.held shelf.old) (name_at (names_in (requested (map string_bytes words.now))) file)) }
+        → IsMissing (H.held shelf.old) (name_at (names_in (requested (map string_bytes words.now)))
+        file)) }
 
     // What stays.
     ensures held { H.held shelf.new ≡ H.held shelf.old }
     ensures out { result.status ≢ 0 → result.status ≢ 4 → result.status ≢ 9 → out.new ≡ out.old }
     ensures out_in_want { result.status ≡ 9 → (out.new ≡ out.old)
-        ⊎ (IsCutAtLine (requested (map string_bytes words.now)) (H.held shelf.old) (S.written out.old) (S.written out.new)
+        ⊎ (IsCutAtLine (requested (map string_bytes words.now)) (H.held shelf.old)
+        (S.written out.old) (S.written out.new)
         ⊎ IsCutByFault (S.is_sound out.old) (S.faults out.old) (S.faults out.new)
         (requested (map string_bytes words.now)) (H.held shelf.old) (S.written out.old) (S.written out.new)) }
     ensures shelf_faults { H.faults shelf.old ≤ H.faults shelf.new }
@@ -173,15 +200,21 @@ fn run<H: Shelf, S: Sink, E: Sink>(
     out: &mut S,
     faults: &mut E,
 ) -> Outcome
-    ensures ended { ((result.status ≡ 0) × IsCarriedOut (requested (map string_bytes words.now)) (H.held shelf.old)
-        (H.asked shelf.old) (H.asked shelf.new) (S.written out.old) (S.written out.new) result.answer × (faults.new ≡ faults.old))
+    ensures ended { ((result.status ≡ 0)
+        × IsCarriedOut (requested (map string_bytes words.now)) (H.held shelf.old)
+        (H.asked shelf.old) (H.asked shelf.new) (S.written out.old) (S.written out.new)
+        result.answer × (faults.new ≡ faults.old))
         ⊎ (IsNone result.answer × (refusal : Refusal)
-        × IsRefused (requested (map string_bytes words.now)) (H.held shelf.old) (H.asked shelf.old) (H.asked shelf.new) refusal
-        × Leaves S.written S.faults S.is_sound (requested (map string_bytes words.now)) (H.held shelf.old) out.old out.new refusal
-        × IsTold (E.is_sound faults.old) (names_in (requested (map string_bytes words.now))) refusal result.status
+        × IsRefused (requested (map string_bytes words.now)) (H.held shelf.old) (H.asked shelf.old)
+        (H.asked shelf.new) refusal
+        × Leaves S.written S.faults S.is_sound (requested (map string_bytes words.now))
+        (H.held shelf.old) out.old out.new refusal
+        × IsTold (E.is_sound faults.old) (names_in (requested (map string_bytes words.now))) refusal
+        result.status
         (E.written faults.old) (E.written faults.new) (E.faults faults.old) (E.faults faults.new)
         × (H.is_sound shelf.old
-        → IsMissingWhereFailed (H.held shelf.old) (names_in (requested (map string_bytes words.now))) refusal)) }
+        → IsMissingWhereFailed (H.held shelf.old)
+        (names_in (requested (map string_bytes words.now))) refusal)) }
     ensures no_request { requested (map string_bytes words.now) ≡ None
         → (result.status ≡ 2) ⊎ (result.status ≡ 9) }
     ensures read_failed { result.status ≡ 3 → Rose (H.faults shelf.old) (H.faults shelf.new) }
@@ -214,10 +247,13 @@ fn answer_request<H: Shelf, S: Sink, E: Sink>(
     requires counted { length (files_of request.now) ≡ count_of request.now }
     requires mce { AsksMce request.now }
     ensures ended { ((result.status ≡ 0) × IsCarriedOut (Some request.now) (H.held shelf.old)
-        (H.asked shelf.old) (H.asked shelf.new) (S.written out.old) (S.written out.new) result.answer × (faults.new ≡ faults.old))
+        (H.asked shelf.old) (H.asked shelf.new) (S.written out.old) (S.written out.new)
+        result.answer × (faults.new ≡ faults.old))
         ⊎ (IsNone result.answer × (refusal : Refusal)
-        × IsRefused (Some request.now) (H.held shelf.old) (H.asked shelf.old) (H.asked shelf.new) refusal
-        × Leaves S.written S.faults S.is_sound (Some request.now) (H.held shelf.old) out.old out.new refusal
+        × IsRefused (Some request.now) (H.held shelf.old) (H.asked shelf.old) (H.asked shelf.new)
+        refusal
+        × Leaves S.written S.faults S.is_sound (Some request.now) (H.held shelf.old) out.old out.new
+        refusal
         × IsTold (E.is_sound faults.old) (names_in (Some request.now)) refusal result.status
         (E.written faults.old) (E.written faults.new) (E.faults faults.old) (E.faults faults.new)
         × (H.is_sound shelf.old
@@ -265,8 +301,10 @@ fn serve<H: Shelf, S: Sink>(
     requires mce { AsksMce request.now }
     ensures ok { IfOk result (λ told. IsCarriedOut (Some request.now) (H.held shelf.old)
         (H.asked shelf.old) (H.asked shelf.new) (S.written out.old) (S.written out.new) (answer_in (Some request.now) told)) }
-    ensures err { IfErr result (IsRefused (Some request.now) (H.held shelf.old) (H.asked shelf.old) (H.asked shelf.new)) }
-    ensures leaves { IfErr result (Leaves S.written S.faults S.is_sound (Some request.now) (H.held shelf.old) out.old out.new) }
+    ensures err { IfErr result (IsRefused (Some request.now) (H.held shelf.old) (H.asked shelf.old)
+        (H.asked shelf.new)) }
+    ensures leaves { IfErr result (Leaves S.written S.faults S.is_sound (Some request.now)
+        (H.held shelf.old) out.old out.new) }
     ensures of_file { IfErr result (IsOfFile (files_of request.now)) }
     ensures read_failed { IfErr result (λ refusal.
         IsReadFailed refusal → Rose (H.faults shelf.old) (H.faults shelf.new)) }
@@ -275,7 +313,8 @@ fn serve<H: Shelf, S: Sink>(
     ensures held { H.held shelf.new ≡ H.held shelf.old }
     ensures shelf_faults { H.faults shelf.old ≤ H.faults shelf.new }
     ensures out_faults { S.faults out.old ≤ S.faults out.new }
-    ensures sound { H.is_sound shelf.old → IfErr result (IsMissingWhereFailed (H.held shelf.old) (files_of request.now)) }
+    ensures sound { H.is_sound shelf.old
+        → IfErr result (IsMissingWhereFailed (H.held shelf.old) (files_of request.now)) }
     ensures out_sound { S.is_sound out.old → IfErr result (λ refusal. ¬ IsWriteFailed refusal) }
     ensures shelf_stays_sound { H.is_sound shelf.old → H.is_sound shelf.new }
     ensures out_stays_sound { S.is_sound out.old → S.is_sound out.new }
@@ -305,7 +344,8 @@ fn answer_contents(
     ensures ok { IfOk result (λ made. IsAnswer request.now (map (λ bytes. bytes.items) contents.now)
         made.told (concat made.lines)) }
     ensures whole { IfOk result (λ made. All IsLine made.lines) }
-    ensures err { IfErr result (IsOfContents request.now (map (λ bytes. bytes.items) contents.now)) }
+    ensures err { IfErr result (IsOfContents request.now
+        (map (λ bytes. bytes.items) contents.now)) }
     ensures of_file { IfErr result (IsOfFileCount (count_of request.now)) }
 {
     match answer_texts(alloc, request, contents) {
@@ -317,7 +357,8 @@ fn answer_contents(
 
 fn refuse<E: Sink>(alloc: Global, refusal: &Refusal, files: &List<Text>, faults: &mut E) -> Outcome
     requires { IsOfFile files.now refusal.now }
-    ensures told { IsTold (E.is_sound faults.old) files.now refusal.now result.status (E.written faults.old) (E.written faults.new)
+    ensures told { IsTold (E.is_sound faults.old) files.now refusal.now result.status
+        (E.written faults.old) (E.written faults.new)
         (E.faults faults.old) (E.faults faults.new) }
     ensures never_falls { E.faults faults.old ≤ E.faults faults.new }
     ensures stays_sound { E.is_sound faults.old → E.is_sound faults.new }

@@ -9,8 +9,10 @@ use mre_outside::{Sink, SinkStop};
 
 /// Writes the lines, one write a line, up to the first that is refused.
 pub fn write_lines<S: Sink>(sink: &mut S, lines: &List<Text>) -> Result<(), SinkStop>
-    ensures ok { OnOk result (Appends (S.written sink.old) (S.written sink.new) (concat lines.now)) }
-    ensures err { OnErr result (AppendsPrefix (S.written sink.old) (S.written sink.new) (concat lines.now)) }
+    ensures ok { OnOk result (Appends (S.written sink.old) (S.written sink.new)
+        (concat lines.now)) }
+    ensures err { OnErr result (AppendsPrefix (S.written sink.old) (S.written sink.new)
+        (concat lines.now)) }
     ensures no_memory { IsErrOf result SinkStop.NoMemory → (count : ℕ) × (count < length lines.now)
         × Appends (S.written sink.old) (S.written sink.new) (concat (take count lines.now)) }
     ensures failed { IsErrOf result SinkStop.Failed → Rose (S.faults sink.old) (S.faults sink.new) }

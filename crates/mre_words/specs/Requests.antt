@@ -1,5 +1,6 @@
 -- The request that the words of a command make. The words are texts, each the list of its bytes.
-use Rattle.std.specs.Prelude.{ℕ, Bool, true, false, ◌&&◌, List, [], ◌∷◌, length, Option, None, Some, if◌then◌else◌, nat_eq, codes}
+use Rattle.std.specs.Prelude.{ℕ, Bool, true, false, ◌&&◌, List, [], ◌∷◌, length, Option, None, Some}
+use Rattle.std.specs.Prelude.{if◌then◌else◌, nat_eq, codes}
 use Rattle.std.specs.List.{list_all}
 use Rattle.std.specs.Option.{option_map}
 use Rattle.std.specs.Cmp.Lexicographic.{pointwise}
@@ -27,9 +28,11 @@ names_if count words = if are_names count words then Some words else None
 -- `mce`, and five names
 abbrev pub explanation_for : List (List ℕ) → Option Request
 explanation_for [] = None
-explanation_for (kind ∷ words) = if is_word kind (codes "mce") then option_map (Explain Mce) (names_if 5 words) else None
+explanation_for (kind ∷ words) =
+    if is_word kind (codes "mce") then option_map (Explain Mce) (names_if 5 words) else None
 
--- `explain mce` and five names, `diff` and four names, `patch` and five names, `plan-patch` and five names
+-- `explain mce` and five names, `diff` and four names, `patch` and five names, `plan-patch` and
+-- five names
 abbrev pub requested : List (List ℕ) → Option Request
 requested [] = None
 requested (command ∷ words) =

@@ -2,7 +2,8 @@ ghost use Rattle.std.specs.Prelude.{◌≡◌, ◌↔◌, None, Some, IfOk, IsEr
 ghost use Rattle.std.specs.List.{list_all};
 ghost use Rattle.std.specs.String.{string_bytes};
 ghost use Rattle.mre_words.specs.Requests.{requested, explanation_for, names_if};
-ghost use Rattle.mre_words.specs.Requests.{files_of, count_of, are_names as are_so_many, is_name as is_filled};
+ghost use Rattle.mre_words.specs.Requests.{files_of, count_of, are_names as are_so_many};
+ghost use Rattle.mre_words.specs.Requests.{is_name as is_filled};
 
 use crate::Request;
 use mre_base::{Kind, List, NoMemory, Text};
@@ -28,7 +29,8 @@ impl From<NoMemory> for WordsStop {
     }
 }
 
-/// The request that the words make, the program's own name left out: `explain mce`, `patch` or `plan-patch` and five names, or `diff`
+/// The request that the words make, the program's own name left out: `explain mce`, `patch` or
+/// `plan-patch` and five names, or `diff`
 /// and four names. A name is any word that isn't empty.
 pub fn read_words(alloc: Global, words: &[String]) -> Result<Request, WordsStop>
     ensures ok { IfOk result (λ request. requested (map string_bytes words.now) ≡ Some request) }

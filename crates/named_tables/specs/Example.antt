@@ -45,27 +45,58 @@ walking = record { pre = []; add = added ∷ []; del = []; cost = Number 2 }
 
 -- in the planner's model nothing is true at first
 abbrev pub planner : Model
-planner = record { words = words; init = []; goal = p ∷ []; schemas = walking ∷ []; values = []; unknown = []; sound = refl }
+planner =
+    record {
+      words = words;
+      init = [];
+      goal = p ∷ [];
+      schemas = walking ∷ [];
+      values = [];
+      unknown = [];
+      sound = refl;
+    }
 
 -- in the user's model (p) is
 abbrev pub user : Model
-user = record { words = words; init = p ∷ []; goal = p ∷ []; schemas = walking ∷ []; values = []; unknown = []; sound = refl }
+user =
+    record {
+      words = words;
+      init = p ∷ [];
+      goal = p ∷ [];
+      schemas = walking ∷ [];
+      values = [];
+      unknown = [];
+      sound = refl;
+    }
 
 -- 1 initially (p) is not true
 abbrev pub models : Models
-models = record { words = words; planner = meaning planner; user = meaning user; places = Init p ∷ [] }
+models =
+    record { words = words; planner = meaning planner; user = meaning user; places = Init p ∷ [] }
 
 -- (p) under a condition
 abbrev pub case_when : When → Case
 case_when when = record { atom = 0; when = when }
 
 abbrev pub walk_cases : CaseAction
-walk_cases = record { pre = []; add = case_when Always ∷ []; del = []; cost = costs.One (values.One (Some 2)); known = Always }
+walk_cases =
+    record {
+      pre = [];
+      add = case_when Always ∷ [];
+      del = [];
+      cost = costs.One
+          (values.One (Some 2));
+      known = Always;
+    }
 
--- (p) and (walk) may be reached, and no lists without (walk) are those that may; a table is that of the models in which (p) is there at the start where the difference is left, and none is in which it is always there
+-- (p) and (walk) may be reached, and no lists without (walk) are those that may; a table is that of
+-- the models in which (p) is there at the start where the difference is left, and none is in which
+-- it is always there
 pub record ExampleLaw : Type 0 where
   pub reached : ListsReachable models (p ∷ []) (walk ∷ [])
   pub without_walk : (atoms : List GroundAtom) → ListsReachable models atoms [] → ⊥
-  pub is_table : (table : CaseTable) → table.atoms ≡ 1 → table.start ≡ case_when (IfLeft 1) ∷ [] → table.goal ≡ case_when Always ∷ [] → table.actions ≡ walk_cases ∷ [] →
+  pub is_table : (table : CaseTable) → table.atoms ≡ 1 → table.start ≡ case_when (IfLeft 1) ∷ []
+      → table.goal ≡ case_when Always ∷ [] → table.actions ≡ walk_cases ∷ [] →
       IsTableOf models (p ∷ []) (walk ∷ []) table
-  pub always_there : (table : CaseTable) → table.start ≡ case_when Always ∷ [] → IsTableOf models (p ∷ []) (walk ∷ []) table → ⊥
+  pub always_there : (table : CaseTable) → table.start ≡ case_when Always ∷ []
+      → IsTableOf models (p ∷ []) (walk ∷ []) table → ⊥

@@ -21,17 +21,22 @@ use Rattle.named_tables.specs.Worlds.{AreRulesOf}
 -- what is reachable by the rules of two models is reachable in them
 abbrev pub ReachLaw : Type 0
 ReachLaw =
-    (models : Models) (world : World) (limits : Limits) (reached : Reached) → AreRulesOf models world → rules.ListsReachable world limits reached →
+    (models : Models) (world : World) (limits : Limits) (reached : Reached)
+    → AreRulesOf models world → rules.ListsReachable world limits reached →
     ListsReachable models reached.atoms reached.actions
 
--- whatever is told, lists of numbers run in the table of what may be reached as lists of ground actions run in the models
+-- whatever is told, lists of numbers run in the table of what may be reached as lists of ground
+-- actions run in the models
 abbrev pub RunLaw : Type 0
 RunLaw =
-    (models : Models) (atoms : List GroundAtom) (actions : List GroundAction) (table : CaseTable) → ListsReachable models atoms actions → IsTableOf models atoms actions table →
+    (models : Models) (atoms : List GroundAtom) (actions : List GroundAction) (table : CaseTable)
+    → ListsReachable models atoms actions → IsTableOf models atoms actions table →
     (told : Told) → RunsAsNamed models actions table told
 
 -- an action has a cost after some set of differences exactly where a number stands in its cost
 abbrev pub PricedLaw : Type 0
 PricedLaw =
-    (models : Models) (action : GroundAction) (known : When) (cost : CaseCost) → IsWhen models (Knows action.schema) known → IsCostOf models action cost → is_apart cost ≡ true → is_beside cost known ≡ true →
+    (models : Models) (action : GroundAction) (known : When) (cost : CaseCost)
+    → IsWhen models (Knows action.schema) known → IsCostOf models action cost
+    → is_apart cost ≡ true → is_beside cost known ≡ true →
     (has_cost cost ≡ true) ↔ HasSomeCost models action

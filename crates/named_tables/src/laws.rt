@@ -6,19 +6,23 @@ pub fn law_reachable()
     ensures { ReachLaw }
 {}
 
-/// In a table of two models that lists what may be reached, a list of numbers is to each member what the list of ground actions with
-/// these numbers is to the user's model after the same differences: valid there exactly where it is valid here, at the same cost, and
+/// In a table of two models that lists what may be reached, a list of numbers is to each member
+/// what the list of ground actions with
+/// these numbers is to the user's model after the same differences: valid there exactly where it is
+/// valid here, at the same cost, and
 /// cheapest there exactly where it is cheapest here. Every valid list has numbers.
 pub fn law_runs()
     ensures { RunLaw }
 {}
 
-/// A ground action has a cost after some set of differences exactly where some number stands in the cost that a table gives it.
+/// A ground action has a cost after some set of differences exactly where some number stands in the
+/// cost that a table gives it.
 pub fn law_priced()
     ensures { PricedLaw }
 {}
 
-/// Two models of which the user believes one fact too many, what may be reached in them, and their table.
+/// Two models of which the user believes one fact too many, what may be reached in them, and their
+/// table.
 pub fn law_example()
     ensures { ExampleLaw }
 {}

@@ -1,5 +1,6 @@
 -- What is made of two models and their differences: the lists of a rule and of a world.
-use Rattle.std.specs.Prelude.{ℕ, ◌≡◌, ◌==◌, ◌||◌, not, Bool, false, List, [], ◌∷◌, ◌++◌, Option, None, Some, is_some, length, map, filter, slice_get, if◌then◌else◌}
+use Rattle.std.specs.Prelude.{ℕ, ◌≡◌, ◌==◌, ◌||◌, not, Bool, false, List, [], ◌∷◌, ◌++◌, Option}
+use Rattle.std.specs.Prelude.{None, Some, is_some, length, map, filter, slice_get, if◌then◌else◌}
 use Rattle.std.specs.List.{filter_map}
 use Rattle.model_kit.specs.declared.vocabulary.Signature.{Signature}
 use Rattle.model_kit.specs.declared.model.Model.{Model}
@@ -20,7 +21,8 @@ use Rattle.pair_rules.specs.Fitting.{IsFitting}
 
 -- some difference is on this precondition of the action
 abbrev pub is_pre : ℕ → SchemaAtom → List Difference → Bool
-is_pre action atom differences = is_some (number_from 0 (places_of differences) (place.Pre action atom))
+is_pre action atom differences =
+    is_some (number_from 0 (places_of differences) (place.Pre action atom))
 
 -- what the action adds in the user's model alone, by the difference
 abbrev pub user_add : ℕ → Difference → Option SchemaAtom
@@ -37,7 +39,8 @@ abbrev pub user_cost : ℕ → Difference → Option CostExpr
 user_cost action (Cost at planner user) = if at == action then Some user else None
 user_cost action _ = None
 
--- the function at objects that has a value in the user's model, where the planner's has another or none
+-- the function at objects that has a value in the user's model, where the planner's has another or
+-- none
 abbrev pub user_key : Difference → Option (ℕ × List ℕ)
 user_key (Value function objects planner (Some user)) = Some (function, objects)
 user_key _ = None
@@ -48,11 +51,13 @@ key_of value = (value.0, value.1)
 
 -- one of the models knows the action
 abbrev pub is_known : Model → Model → ℕ → Bool
-is_known planner user action = is_on (meaning planner (Knows action)) || is_on (meaning user (Knows action))
+is_known planner user action =
+    is_on (meaning planner (Knows action)) || is_on (meaning user (Knows action))
 
 -- the preconditions that both models have, what either adds, and the costs of both
 abbrev pub needs_of : List Difference → ℕ → Schema → List SchemaAtom
-needs_of differences action schema = filter (λ atom. not (is_pre action atom differences)) schema.pre
+needs_of differences action schema =
+    filter (λ atom. not (is_pre action atom differences)) schema.pre
 
 abbrev pub adds_of : List Difference → ℕ → Schema → List SchemaAtom
 adds_of differences action schema = schema.add ++ filter_map (user_add action) differences
@@ -70,7 +75,8 @@ rule_of planner user differences action signature schema = record {
 }
 
 -- the rule is made of the action's signature and the planner's schema
-pub record IsRuleMade (planner user : Model) (differences : List Difference) (action : ℕ) (rule : Rule) : Type 0 where
+pub record IsRuleMade (planner user : Model) (differences : List Difference) (action : ℕ)
+    (rule : Rule) : Type 0 where
   pub signature : Signature
   pub schema : Schema
   pub signed : slice_get planner.words.actions action ≡ Some signature
@@ -78,12 +84,16 @@ pub record IsRuleMade (planner user : Model) (differences : List Difference) (ac
   pub is : rule ≡ rule_of planner user differences action signature schema
 
 -- the rules of the first actions
-pub record AreRulesMade (planner user : Model) (differences : List Difference) (count : ℕ) (rules : List Rule) : Type 0 where
+pub record AreRulesMade (planner user : Model) (differences : List Difference) (count : ℕ)
+    (rules : List Rule) : Type 0 where
   pub counted : length rules ≡ count
-  pub each : (action : ℕ) (rule : Rule) → slice_get rules action ≡ Some rule → IsRuleMade planner user differences action rule
+  pub each : (action : ℕ) (rule : Rule) → slice_get rules action ≡ Some rule
+      → IsRuleMade planner user differences action rule
 
--- the world is made of the objects of the types that parameters have, of what is true and valued in either model, and of the rules of all actions
-pub record IsWorldMade (planner user : Model) (differences : List Difference) (world : World) : Type 0 where
+-- the world is made of the objects of the types that parameters have, of what is true and valued in
+-- either model, and of the rules of all actions
+pub record IsWorldMade (planner user : Model) (differences : List Difference)
+    (world : World) : Type 0 where
   pub fitting : IsFitting planner.words world.fitting
   pub initial : world.initial ≡ planner.init ++ filter_map user_init differences
   pub values : world.values ≡ map key_of planner.values ++ filter_map user_key differences

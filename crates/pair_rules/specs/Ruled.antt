@@ -10,7 +10,13 @@ use Rattle.named_tables.specs.Worlds.{AreRulesOf}
 
 -- two models with these differences
 abbrev pub models_of : Model → Model → List Difference → Models
-models_of planner user differences = record { words = planner.words; planner = meaning planner; user = meaning user; places = places_of differences }
+models_of planner user differences =
+    record {
+      words = planner.words;
+      planner = meaning planner;
+      user = meaning user;
+      places = places_of differences;
+    }
 
 -- the world has the rules of two models with these differences
 abbrev pub HasRules : Model → Model → List Difference → World → Type 0

@@ -42,8 +42,10 @@ fn all_types(alloc: Global, words: &Vocabulary, count: u32) -> Result<List<Bits>
 fn put_kinds(used: &mut Bits, kinds: &List<u32>)
     requires listed { All (λ kind. kind < used.old.width) kinds.now }
     ensures width { used.new.width ≡ used.old.width }
-    ensures grows { (kind : ℕ) → set.contains used.old.members kind ≡ true → set.contains used.new.members kind ≡ true }
-    ensures there { (kind : ℕ) → Contains kinds.now kind → set.contains used.new.members kind ≡ true }
+    ensures grows { (kind : ℕ) → set.contains used.old.members kind ≡ true
+        → set.contains used.new.members kind ≡ true }
+    ensures there { (kind : ℕ) → Contains kinds.now kind
+        → set.contains used.new.members kind ≡ true }
 {
     for place in 0..kinds.len() {
         used.put(*kinds.item(place));
@@ -71,7 +73,8 @@ fn objects_of(
 ) -> Result<List<u32>, NoMemory>
     requires count { count ≡ length sets.now }
     requires listed { All (λ bits. kind < bits.width) sets.now }
-    ensures { IfOk result (λ made. made ≡ filter (has_type sets.now kind) (range_with_len 0 count)) }
+    ensures { IfOk result (λ made. made
+        ≡ filter (has_type sets.now kind) (range_with_len 0 count)) }
 {
     let mut made = List::empty(alloc);
     for object in 0..count {

@@ -1,7 +1,10 @@
-// The lists of a rule and of a world: what the planner's model has, by the differences what the user's has in its place or beside it.
-ghost use Rattle.std.specs.Prelude.{◌≡◌, ◌∷◌, [], ◌++◌, Some, None, map, filter, not, IfOk, IfSome, IfNone};
+// The lists of a rule and of a world: what the planner's model has, by the differences what the
+// user's has in its place or beside it.
+ghost use Rattle.std.specs.Prelude.{◌≡◌, ◌∷◌, [], ◌++◌, Some, None, map, filter, not, IfOk, IfSome};
+ghost use Rattle.std.specs.Prelude.{IfNone};
 ghost use Rattle.std.specs.List.{filter_map};
-ghost use Rattle.pair_rules.specs.Made.{is_pre, user_add as added_alone, user_init as true_alone, user_cost as costs_alone, user_key as valued, key_of};
+ghost use Rattle.pair_rules.specs.Made.{is_pre, user_add as added_alone, user_init as true_alone};
+ghost use Rattle.pair_rules.specs.Made.{user_cost as costs_alone, user_key as valued, key_of};
 
 use feature_diff::{ActionPart, Difference, Part, place_at};
 use model_kit::{CostExpr, GroundAtom, SchemaAtom};
@@ -60,7 +63,8 @@ fn user_cost(action: u32, difference: &Difference) -> Option<&CostExpr>
     }
 }
 
-// The function at objects that has a value in the user's model, where the planner's has another or none.
+// The function at objects that has a value in the user's model, where the planner's has another or
+// none.
 fn user_key(difference: &Difference) -> Option<(u32, &List<u32>)>
     ensures some { IfSome result (λ key. valued difference.now ≡ Some (key.0, key.1.now)) }
     ensures none { IfNone result (valued difference.now ≡ None) }
@@ -83,7 +87,8 @@ pub(crate) fn needs_of(
     pre: &List<SchemaAtom>,
     differences: &List<Difference>,
 ) -> Result<List<SchemaAtom>, NoMemory>
-    ensures { IfOk result (λ made. made ≡ filter (λ atom. not (is_pre action atom differences.now)) pre.now) }
+    ensures { IfOk result (λ made. made
+        ≡ filter (λ atom. not (is_pre action atom differences.now)) pre.now) }
 {
     let mut made = List::empty(alloc);
     for place in 0..pre.len() {
@@ -95,14 +100,16 @@ pub(crate) fn needs_of(
     Ok(made)
 }
 
-/// The atoms that an action adds in the planner's model, and those that it adds in the user's alone.
+/// The atoms that an action adds in the planner's model, and those that it adds in the user's
+/// alone.
 pub(crate) fn adds_of(
     alloc: Global,
     action: u32,
     add: &List<SchemaAtom>,
     differences: &List<Difference>,
 ) -> Result<List<SchemaAtom>, NoMemory>
-    ensures { IfOk result (λ made. made ≡ add.now ++ filter_map (added_alone action) differences.now) }
+    ensures { IfOk result (λ made. made ≡ add.now
+        ++ filter_map (added_alone action) differences.now) }
 {
     let mut made = add.copied(alloc)?;
     for place in 0..differences.len() {
@@ -137,7 +144,8 @@ pub(crate) fn costs_of(
     cost: &CostExpr,
     differences: &List<Difference>,
 ) -> Result<List<CostExpr>, NoMemory>
-    ensures { IfOk result (λ made. made ≡ (cost.now ∷ []) ++ filter_map (costs_alone action) differences.now) }
+    ensures { IfOk result (λ made. made ≡ (cost.now ∷ [])
+        ++ filter_map (costs_alone action) differences.now) }
 {
     let mut made = List::empty(alloc);
     made.push(cost.copied(alloc)?)?;
@@ -149,14 +157,16 @@ pub(crate) fn costs_of(
     Ok(made)
 }
 
-/// The functions at objects that have a value in the planner's model, and those that have one in the user's where there is another in
+/// The functions at objects that have a value in the planner's model, and those that have one in
+/// the user's where there is another in
 /// the planner's or none.
 pub(crate) fn keys_of(
     alloc: Global,
     values: &List<(u32, List<u32>, u32)>,
     differences: &List<Difference>,
 ) -> Result<List<(u32, List<u32>)>, NoMemory>
-    ensures { IfOk result (λ made. made ≡ map key_of values.now ++ filter_map valued differences.now) }
+    ensures { IfOk result (λ made. made ≡ map key_of values.now
+        ++ filter_map valued differences.now) }
 {
     let mut made = planner_keys(alloc, values)?;
     for place in 0..differences.len() {

@@ -45,7 +45,8 @@ fn all_rules(
     pair: &Pair,
     differences: &List<Difference>,
 ) -> Result<List<Rule>, NoMemory>
-    ensures { IfOk result (AreRulesMade pair.now.planner pair.now.user differences.now (length pair.now.planner.words.actions)) }
+    ensures { IfOk result (AreRulesMade pair.now.planner pair.now.user differences.now
+        (length pair.now.planner.words.actions)) }
 {
     let count = narrowed(pair.words().actions.len())?;
     let mut rules = List::empty(alloc);
@@ -55,9 +56,12 @@ fn all_rules(
     Ok(rules)
 }
 
-/// The rules over which it is searched for what may be reached in two models: the objects of the types that parameters have, the initial
-/// facts and the values of either model, and for each action the preconditions that both have, its costs and what it adds in either.
-/// The rule of an action that neither model knows has no cost. `NoMemory` leaves all as it was; more than 32 bits of actions, types or
+/// The rules over which it is searched for what may be reached in two models: the objects of the
+/// types that parameters have, the initial
+/// facts and the values of either model, and for each action the preconditions that both have, its
+/// costs and what it adds in either.
+/// The rule of an action that neither model knows has no cost. `NoMemory` leaves all as it was;
+/// more than 32 bits of actions, types or
 /// objects count as want of memory.
 pub fn rules_of(
     alloc: Global,

@@ -24,11 +24,14 @@ user_feature number_of f = option_map (λ number. (f, IfLeft number)) (number_of
 
 -- the features of the planner's list, and those of the user's alone
 abbrev pub features : {F : Type 0} → (F → Option ℕ) → List F → List F → List (F × When)
-features number_of planner user = map (planner_feature number_of) planner ++ filter_map (user_feature number_of) user
+features number_of planner user =
+    map (planner_feature number_of) planner ++ filter_map (user_feature number_of) user
 
 -- the list has what either model has of the kind, each with the condition under which it is there
-pub record AreFeatures (models : Models) (F : Type 0) (place : F → Place) (list : List (F × When)) : Type 0 where
-  pub each : (feature : F × When) → Contains list feature → IsWhen models (place feature.0) feature.1
+pub record AreFeatures (models : Models) (F : Type 0) (place : F → Place)
+    (list : List (F × When)) : Type 0 where
+  pub each : (feature : F × When) → Contains list feature
+      → IsWhen models (place feature.0) feature.1
   pub all : (f : F) → EitherHas models (place f) → (when : When) × Contains list (f, when)
 
 -- a feature with the number of its atom

@@ -14,9 +14,12 @@ pub record MayBeDone (models : Models) (action : GroundAction) : Type 0 where
   pub known : EitherHas models (Knows action.schema)
 
 -- the cases are those of the first actions, one for each
-pub record AreActionsUpTo (models : Models) (number : GroundAtom → ℕ) (actions : List GroundAction) (count : ℕ) (made : List CaseAction) : Type 0 where
+pub record AreActionsUpTo (models : Models) (number : GroundAtom → ℕ) (actions : List GroundAction)
+    (count : ℕ) (made : List CaseAction) : Type 0 where
   pub counted : length made ≡ count
-  pub each : (k : ℕ) (action : GroundAction) (cases : CaseAction) → slice_get actions k ≡ Some action → slice_get made k ≡ Some cases → IsActionOf models number action cases
+  pub each : (k : ℕ) (action : GroundAction) (cases : CaseAction)
+      → slice_get actions k ≡ Some action → slice_get made k ≡ Some cases
+      → IsActionOf models number action cases
 
 -- the cases are those of the actions
 abbrev pub AreActionsOf : Models → (GroundAtom → ℕ) → List GroundAction → List CaseAction → Type 0

@@ -19,4 +19,5 @@ pub record IsScheme (models : Models) (schema : ℕ) (scheme : Scheme) : Type 0 
 -- the schemes are those of the first schemas
 pub record AreSchemes (models : Models) (count : ℕ) (schemes : List Scheme) : Type 0 where
   pub counted : length schemes ≡ count
-  pub each : (schema : ℕ) (scheme : Scheme) → slice_get schemes schema ≡ Some scheme → IsScheme models schema scheme
+  pub each : (schema : ℕ) (scheme : Scheme) → slice_get schemes schema ≡ Some scheme
+      → IsScheme models schema scheme

@@ -41,7 +41,9 @@ fn planner_features<K, T: Spot<K>>(
     differences: &List<Difference>,
 ) -> Result<List<(T, When)>, NoMemory>
     requires few { length differences.now ≤ 256 }
-    ensures { IfOk result (λ made. made ≡ map (planner_feature (λ item. number_from 1 (places_of differences.now) (T.place kind.now item))) planner.now) }
+    ensures { IfOk result (λ made. made
+        ≡ map (planner_feature (λ item. number_from 1 (places_of differences.now)
+        (T.place kind.now item))) planner.now) }
 {
     let mut made = List::empty(alloc);
     for place in 0..planner.len() {
@@ -52,7 +54,8 @@ fn planner_features<K, T: Spot<K>>(
     Ok(made)
 }
 
-/// The features of the planner's list, and behind them those of the user's that the planner's model hasn't.
+/// The features of the planner's list, and behind them those of the user's that the planner's model
+/// hasn't.
 pub(crate) fn features_of<K, T: Spot<K>>(
     alloc: Global,
     kind: &K,
@@ -61,7 +64,9 @@ pub(crate) fn features_of<K, T: Spot<K>>(
     differences: &List<Difference>,
 ) -> Result<List<(T, When)>, NoMemory>
     requires few { length differences.now ≤ 256 }
-    ensures { IfOk result (λ made. made ≡ features (λ item. number_from 1 (places_of differences.now) (T.place kind.now item)) planner.now user.now) }
+    ensures { IfOk result (λ made. made
+        ≡ features (λ item. number_from 1 (places_of differences.now) (T.place kind.now item))
+        planner.now user.now) }
 {
     let mut made = planner_features(alloc, kind, planner, differences)?;
     for place in 0..user.len() {

@@ -43,7 +43,8 @@ fn worth_case(
     requires few { length differences.now ≤ 256 }
     requires all { AreDifferencesOf pair.now.planner pair.now.user differences.now }
     requires table { IsTableOf pair.now.planner.values values.now }
-    ensures { IsWorth (models_of pair.now.planner pair.now.user differences.now) (Value function objects) result }
+    ensures { IsWorth (models_of pair.now.planner pair.now.user differences.now)
+        (Value function objects) result }
 {
     let term = (function, objects, 0);
     match place_at(&term, &Worths, differences) {
@@ -68,7 +69,8 @@ fn value_case(
     requires all { AreDifferencesOf pair.now.planner pair.now.user differences.now }
     requires table { IsTableOf pair.now.planner.values values.now }
     requires placed { IsPlaced (length objects.now) cost.now }
-    ensures { IfOk result (IsValue (models_of pair.now.planner pair.now.user differences.now) objects.now (Price cost.now)) }
+    ensures { IfOk result (IsValue (models_of pair.now.planner pair.now.user differences.now)
+        objects.now (Price cost.now)) }
 {
     match cost {
         CostExpr::Number(number) => Ok(CaseValue::One(Some(*number))),
@@ -92,8 +94,10 @@ pub(crate) fn cost_case(
     requires all { AreDifferencesOf pair.now.planner pair.now.user differences.now }
     requires table { IsTableOf pair.now.planner.values values.now }
     requires fits { IsGroundAction pair.now.planner.words action.now }
-    requires scheme { IsScheme (models_of pair.now.planner pair.now.user differences.now) action.now.schema scheme.now }
-    ensures { IfOk result (IsCostOf (models_of pair.now.planner pair.now.user differences.now) action.now) }
+    requires scheme { IsScheme (models_of pair.now.planner pair.now.user differences.now)
+        action.now.schema scheme.now }
+    ensures { IfOk result (IsCostOf (models_of pair.now.planner pair.now.user differences.now)
+        action.now) }
 {
     let schema = action.schema as usize;
     let objects = &action.objects;

@@ -52,7 +52,8 @@ pub(crate) fn fact_features(
 ) -> Result<List<(GroundAtom, When)>, NoMemory>
     requires few { length differences.now ≤ 256 }
     requires all { AreDifferencesOf pair.now.planner pair.now.user differences.now }
-    ensures { IfOk result (AreFeatures (models_of pair.now.planner pair.now.user differences.now) GroundAtom (fact_place kind)) }
+    ensures { IfOk result (AreFeatures (models_of pair.now.planner pair.now.user differences.now)
+        GroundAtom (fact_place kind)) }
 {
     let planner = facts_in(kind, pair.planner());
     let user = facts_in(kind, pair.user());
@@ -70,7 +71,8 @@ fn part_features(
     requires few { length differences.now ≤ 256 }
     requires all { AreDifferencesOf pair.now.planner pair.now.user differences.now }
     requires listed { action < length pair.now.planner.words.actions }
-    ensures { IfOk result (AreFeatures (models_of pair.now.planner pair.now.user differences.now) SchemaAtom (place_in part action)) }
+    ensures { IfOk result (AreFeatures (models_of pair.now.planner pair.now.user differences.now)
+        SchemaAtom (place_in part action)) }
 {
     let kind = ActionPart { action, part };
     let place = action as usize;
@@ -108,7 +110,8 @@ fn scheme_of(
     requires few { length differences.now ≤ 256 }
     requires all { AreDifferencesOf pair.now.planner pair.now.user differences.now }
     requires listed { action < length pair.now.planner.words.actions }
-    ensures { IfOk result (IsScheme (models_of pair.now.planner pair.now.user differences.now) action) }
+    ensures { IfOk result (IsScheme (models_of pair.now.planner pair.now.user differences.now)
+        action) }
 {
     Ok(Scheme {
         pre: part_features(alloc, pair, differences, action, Part::Pre)?,
@@ -127,7 +130,8 @@ pub(crate) fn schemes_of(
 ) -> Result<List<Scheme>, NoMemory>
     requires few { length differences.now ≤ 256 }
     requires all { AreDifferencesOf pair.now.planner pair.now.user differences.now }
-    ensures { IfOk result (AreSchemes (models_of pair.now.planner pair.now.user differences.now) (length pair.now.planner.words.actions)) }
+    ensures { IfOk result (AreSchemes (models_of pair.now.planner pair.now.user differences.now)
+        (length pair.now.planner.words.actions)) }
 {
     let count = narrowed(pair.words().actions.len())?;
     let mut schemes = List::empty(alloc);

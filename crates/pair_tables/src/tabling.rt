@@ -27,7 +27,8 @@ fn fact_cases(
     numbers: &AtomNumbers,
     features: &List<(GroundAtom, When)>,
 ) -> Result<List<Case>, NoMemory>
-    ensures { IfOk result (λ made. made ≡ map (case_of (number_by numbers.now) (λ atom. atom)) features.now) }
+    ensures { IfOk result (λ made. made
+        ≡ map (case_of (number_by numbers.now) (λ atom. atom)) features.now) }
 {
     let mut made = List::empty(alloc);
     for place in 0..features.len() {
@@ -46,7 +47,8 @@ fn part_cases(
     objects: &List<u32>,
 ) -> Result<List<Case>, NoMemory>
     requires placed { All (λ feature. ArePlaced objects.now feature.0.args) features.now }
-    ensures { IfOk result (λ made. made ≡ map (case_of (number_by numbers.now) (instance objects.now)) features.now) }
+    ensures { IfOk result (λ made. made
+        ≡ map (case_of (number_by numbers.now) (instance objects.now)) features.now) }
 {
     let mut made = List::empty(alloc);
     for place in 0..features.len() {
@@ -69,9 +71,12 @@ fn action_cases(
     requires few { length differences.now ≤ 256 }
     requires all { AreDifferencesOf pair.now.planner pair.now.user differences.now }
     requires values { AreValuesOf pair.now.planner.values values.now }
-    requires schemes { AreSchemes (models_of pair.now.planner pair.now.user differences.now) (length pair.now.planner.words.actions) schemes.now }
-    requires done { MayBeDone (models_of pair.now.planner pair.now.user differences.now) action.now }
-    ensures { IfOk result (IsActionOf (models_of pair.now.planner pair.now.user differences.now) (number_by numbers.now) action.now) }
+    requires schemes { AreSchemes (models_of pair.now.planner pair.now.user differences.now)
+        (length pair.now.planner.words.actions) schemes.now }
+    requires done { MayBeDone (models_of pair.now.planner pair.now.user differences.now)
+        action.now }
+    ensures { IfOk result (IsActionOf (models_of pair.now.planner pair.now.user differences.now)
+        (number_by numbers.now) action.now) }
 {
     let scheme = schemes.item(action.schema as usize);
     let objects = &action.objects;
@@ -93,8 +98,10 @@ fn all_cases(
 ) -> Result<List<CaseAction>, NoMemory>
     requires few { length differences.now ≤ 256 }
     requires all { AreDifferencesOf pair.now.planner pair.now.user differences.now }
-    requires done { All (MayBeDone (models_of pair.now.planner pair.now.user differences.now)) actions.now }
-    ensures { IfOk result (AreActionsOf (models_of pair.now.planner pair.now.user differences.now) (number_by numbers.now) actions.now) }
+    requires done { All (MayBeDone (models_of pair.now.planner pair.now.user differences.now))
+        actions.now }
+    ensures { IfOk result (AreActionsOf (models_of pair.now.planner pair.now.user differences.now)
+        (number_by numbers.now) actions.now) }
 {
     let values = value_table(alloc, &pair.planner().values)?;
     let schemes = schemes_of(alloc, pair, differences)?;
@@ -106,8 +113,10 @@ fn all_cases(
     Ok(made)
 }
 
-/// The table of two models over lists of the atoms and the ground actions that may be reached in them: an atom has the number of its
-/// place in the list, an action the number of its own, and each condition names the difference on the feature. `NoMemory` leaves all as
+/// The table of two models over lists of the atoms and the ground actions that may be reached in
+/// them: an atom has the number of its
+/// place in the list, an action the number of its own, and each condition names the difference on
+/// the feature. `NoMemory` leaves all as
 /// it was; more than 32 bits of action schemas count as want of memory.
 pub fn table_of(
     alloc: Global,
@@ -118,10 +127,12 @@ pub fn table_of(
 ) -> Result<CaseTable, NoMemory>
     requires all { AreDifferencesOf pair.now.planner pair.now.user differences.now }
     requires few_differences { length differences.now ≤ 256 }
-    requires reachable { ListsReachable (models_of pair.now.planner pair.now.user differences.now) atoms.now actions.now }
+    requires reachable { ListsReachable (models_of pair.now.planner pair.now.user differences.now)
+        atoms.now actions.now }
     requires few_atoms { length atoms.now ≤ 4096 }
     requires few_actions { length actions.now ≤ 50000 }
-    ensures table { IfOk result (IsTableOf (models_of pair.now.planner pair.now.user differences.now) atoms.now actions.now) }
+    ensures table { IfOk result (IsTableOf
+        (models_of pair.now.planner pair.now.user differences.now) atoms.now actions.now) }
     ensures differences { IfOk result (λ table. table.d ≡ length differences.now) }
 {
     let numbers = AtomNumbers::of(alloc, atoms)?;

@@ -16,9 +16,11 @@ action_name s = only_if (is_free_sort s) (next.One (part.Keys no_keys))
 -- each key of an action at most once
 abbrev pub key : KeysSeen → Sort → Next
 key seen word.Parameters =
-    only_if (not seen.parameters) (next.Two part.ParameterList (part.Keys (record seen { parameters = true })))
+    only_if (not seen.parameters) (next.Two part.ParameterList
+    (part.Keys (record seen { parameters = true })))
 key seen word.Precondition =
-    only_if (not seen.precondition) (next.Two part.Condition (part.Keys (record seen { precondition = true })))
+    only_if (not seen.precondition) (next.Two part.Condition
+    (part.Keys (record seen { precondition = true })))
 key seen word.Effect =
     only_if (not seen.effect) (next.Two part.Effect (part.Keys (record seen { effect = true })))
 key seen s = next.Refused

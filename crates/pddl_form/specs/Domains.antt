@@ -24,15 +24,20 @@ domain_word s = next.Refused
 -- each section of a domain at most once, save the actions
 abbrev pub section : SectionsSeen → Sort → Next
 section seen word.Requirements =
-    only_if (not seen.requirements) (next.Two part.Words (part.Sections (record seen { requirements = true })))
+    only_if (not seen.requirements) (next.Two part.Words
+    (part.Sections (record seen { requirements = true })))
 section seen word.Types =
-    only_if (not seen.types) (next.Two (part.Names listing.Types) (part.Sections (record seen { types = true })))
+    only_if (not seen.types) (next.Two (part.Names listing.Types)
+    (part.Sections (record seen { types = true })))
 section seen word.Constants =
-    only_if (not seen.constants) (next.Two (part.Names listing.Constants) (part.Sections (record seen { constants = true })))
+    only_if (not seen.constants) (next.Two (part.Names listing.Constants)
+    (part.Sections (record seen { constants = true })))
 section seen word.Predicates =
-    only_if (not seen.predicates) (next.Two part.Predicates (part.Sections (record seen { predicates = true })))
+    only_if (not seen.predicates) (next.Two part.Predicates
+    (part.Sections (record seen { predicates = true })))
 section seen word.Functions =
-    only_if (not seen.functions) (next.Two part.Functions (part.Sections (record seen { functions = true })))
+    only_if (not seen.functions) (next.Two part.Functions
+    (part.Sections (record seen { functions = true })))
 section seen word.Action = next.Two part.ActionName (part.Sections seen)
 section seen s = next.Refused
 

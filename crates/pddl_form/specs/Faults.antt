@@ -1,5 +1,6 @@
 -- What is told of the first token that no text of the grammar has, by the part that was due there.
-use Rattle.std.specs.Prelude.{ℕ, ◌&&◌, Bool, true, false, List, [], ◌∷◌, codes, Option, None, Some, if◌then◌else◌}
+use Rattle.std.specs.Prelude.{ℕ, ◌&&◌, Bool, true, false, List, [], ◌∷◌, codes, Option, None, Some}
+use Rattle.std.specs.Prelude.{if◌then◌else◌}
 use Rattle.pddl_text.specs.declared.fault.TextFault.{TextFault}
 use Rattle.pddl_text.specs.declared.fault.TextRule.{TextRule}
 use Rattle.pddl_text.specs.declared.fault.TextRule.TheVariants as rule
@@ -10,7 +11,8 @@ use Rattle.pddl_form.specs.declared.parts.Part.{Part}
 use Rattle.pddl_form.specs.declared.parts.Part.TheVariants as part
 use Rattle.pddl_form.specs.declared.sort.Sort.{Sort}
 use Rattle.pddl_form.specs.declared.sort.Sort.TheVariants as word
-use Rattle.pddl_form.specs.Names.{is_reserved, is_name_sort, is_condition_word, is_effect_word, is_section_word}
+use Rattle.pddl_form.specs.Names.{is_reserved, is_name_sort, is_condition_word, is_effect_word}
+use Rattle.pddl_form.specs.Names.{is_section_word}
 use Rattle.pddl_form.specs.Words.{sort}
 
 -- the word `not`

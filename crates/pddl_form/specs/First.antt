@@ -77,5 +77,7 @@ pub record IsShort (start : Part) (tokens : List Token) : Type 0 where
 
 -- the forest is no text of the grammar, and this is told of the first place where it is none
 pub data LeavesForm (start : Part) (forest : Forest) : TextFault → Type 0 where
-  at_token : {told : TextFault} → IsFirst start (tokens_of_all forest.trees) told → LeavesForm start forest told
-  past_end : IsShort start (tokens_of_all forest.trees) → LeavesForm start forest (fault forest.past rule.Form [])
+  at_token : {told : TextFault} → IsFirst start (tokens_of_all forest.trees) told
+      → LeavesForm start forest told
+  past_end : IsShort start (tokens_of_all forest.trees)
+      → LeavesForm start forest (fault forest.past rule.Form [])

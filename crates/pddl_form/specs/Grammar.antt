@@ -68,13 +68,15 @@ IsCostName text = IsName text × (text ≢ codes "total-cost")
 -- words up to the end of their list
 pub data Row (IsWord : List ℕ → Type 0) : List Sign → Type 0 where
   end : Row IsWord (Closes ∷ [])
-  word : {text : List ℕ} {rest : List Sign} → IsWord text → Row IsWord rest → Row IsWord (Says text ∷ rest)
+  word : {text : List ℕ} {rest : List Sign} → IsWord text → Row IsWord rest
+      → Row IsWord (Says text ∷ rest)
 
 -- a typed list up to the end of its list: behind things of a group, a dash and the group's type may
 -- stand; the test tells whether things of a group stand before
 pub data Typed (IsThing : List ℕ → Type 0) : Bool → List Sign → Type 0 where
   end : {behind : Bool} → Typed IsThing behind (Closes ∷ [])
-  thing : {behind : Bool} {text : List ℕ} {rest : List Sign} → IsThing text → Typed IsThing true rest
+  thing : {behind : Bool} {text : List ℕ} {rest : List Sign} → IsThing text
+      → Typed IsThing true rest
       → Typed IsThing behind (Says text ∷ rest)
   type : {text : List ℕ} {rest : List Sign} → IsName text → Typed IsThing false rest
       → Typed IsThing true (Says (codes "-") ∷ Says text ∷ rest)

@@ -1,5 +1,7 @@
 -- The numbers that words spell. A byte 48 to 57 is a digit, and 46 is the point.
-use Rattle.std.specs.Prelude.{ℕ, ◌+◌, ◌-◌, ◌*◌, ◌<◌, ◌≤◌, ◌≡◌, ◌==◌, ◌&&◌, nat_le, nat_lt, Bool, List, [], ◌∷◌, ◌++◌, IsTrue, length, take, drop, Option, None, Some, if◌then◌else◌}
+use Rattle.std.specs.Prelude.{ℕ, ◌+◌, ◌-◌, ◌*◌, ◌<◌, ◌≤◌, ◌≡◌, ◌==◌, ◌&&◌, nat_le, nat_lt, Bool}
+use Rattle.std.specs.Prelude.{List, [], ◌∷◌, ◌++◌, IsTrue, length, take, drop, Option, None, Some}
+use Rattle.std.specs.Prelude.{if◌then◌else◌}
 use Rattle.std.specs.List.{AllByRecursion, list_all}
 use Rattle.std.specs.Option.{option_and_then}
 
@@ -34,7 +36,8 @@ are_zeros bytes = list_all (λ b. b == 48) bytes
 -- the number that a word spells: digits, and perhaps a point and zeros or nothing behind it
 abbrev pub number : List ℕ → Option ℕ
 number text =
-    if are_zeros (drop (point_at text + 1) text) then whole_number (take (point_at text) text) else None
+    if are_zeros (drop (point_at text + 1) text) then whole_number (take (point_at text) text)
+    else None
 
 -- ---- the same in other words
 

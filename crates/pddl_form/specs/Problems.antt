@@ -28,15 +28,18 @@ of_domain_word s = next.Refused
 -- each section of a problem at most once
 abbrev pub statement : StatementsSeen → Sort → Next
 statement seen word.Requirements =
-    only_if (not seen.requirements) (next.Two part.Words (part.Statements (record seen { requirements = true })))
+    only_if (not seen.requirements) (next.Two part.Words
+    (part.Statements (record seen { requirements = true })))
 statement seen word.Objects =
-    only_if (not seen.objects) (next.Two (part.Names listing.Objects) (part.Statements (record seen { objects = true })))
+    only_if (not seen.objects) (next.Two (part.Names listing.Objects)
+    (part.Statements (record seen { objects = true })))
 statement seen word.Init =
     only_if (not seen.init) (next.Two part.Facts (part.Statements (record seen { init = true })))
 statement seen word.Goal =
     only_if (not seen.goal) (next.Two part.Goal (part.Statements (record seen { goal = true })))
 statement seen word.Metric =
-    only_if (not seen.metric) (next.Two part.Metric (part.Statements (record seen { metric = true })))
+    only_if (not seen.metric) (next.Two part.Metric
+    (part.Statements (record seen { metric = true })))
 statement seen s = next.Refused
 
 -- `(= VALUED NUMBER)` or `(NAME NAME*)`

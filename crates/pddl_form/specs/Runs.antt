@@ -1,4 +1,5 @@
--- How a text is read token by token: the first part that is due takes the token, or the reading stops.
+-- How a text is read token by token: the first part that is due takes the token, or the reading
+-- stops.
 use Rattle.std.specs.Prelude.{List, [], ◌∷◌, ◌++◌, Result, Ok, Err}
 use Rattle.pddl_text.specs.declared.fault.TextFault.{TextFault}
 use Rattle.pddl_text.specs.declared.fault.TextRule.TheVariants as rule
@@ -29,7 +30,8 @@ noted p (token.Open at) met = met
 noted p (token.Close at) met = met
 noted p (token.Stray at) met = met
 
--- where a reading is behind some tokens: parts are due, the first one first, and words were met; or it stopped
+-- where a reading is behind some tokens: parts are due, the first one first, and words were met; or
+-- it stopped
 pub data Run : Type 0 where
   Going : List Part → List Met → Run
   Stopped : TextFault → Run

@@ -1,4 +1,5 @@
--- The table of the grammars: what is due in the place of a part that took a token. A part that takes
+-- The table of the grammars: what is due in the place of a part that took a token. A part that
+-- takes
 -- a token is followed by two parts at most, and what was due behind it stays due behind them.
 use Rattle.std.specs.Prelude.{◌&&◌, not, Bool, true, false}
 use Rattle.pddl_form.specs.declared.parts.Owner.TheVariants as owner
@@ -10,9 +11,12 @@ use Rattle.pddl_form.specs.declared.sort.Sort.{Sort}
 use Rattle.pddl_form.specs.Rows.{only_if, no_statements, have_all_stood}
 use Rattle.pddl_form.specs.Names.{is_name_sort}
 use Rattle.pddl_form.specs.Typed.{names, names_more, variables, variables_more}
-use Rattle.pddl_form.specs.Domains.{domain_define, domain_word, section, predicate_name, function_name, function_tail, function_type}
-use Rattle.pddl_form.specs.Actions.{action_name, key, condition_head, effect_head, atom_head, total_word, cost, cost_head, terms}
-use Rattle.pddl_form.specs.Problems.{problem_define, problem_word, of_domain_word, statement, fact_head, valued_head, goal_head, objects, metric}
+use Rattle.pddl_form.specs.Domains.{domain_define, domain_word, section, predicate_name}
+use Rattle.pddl_form.specs.Domains.{function_name, function_tail, function_type}
+use Rattle.pddl_form.specs.Actions.{action_name, key, condition_head, effect_head, atom_head}
+use Rattle.pddl_form.specs.Actions.{total_word, cost, cost_head, terms}
+use Rattle.pddl_form.specs.Problems.{problem_define, problem_word, of_domain_word, statement}
+use Rattle.pddl_form.specs.Problems.{fact_head, valued_head, goal_head, objects, metric}
 
 -- what is due behind a word, where a part of a problem was due
 abbrev pub after_problem_word : Part → Sort → Next
@@ -77,7 +81,8 @@ after_open part.Cost = next.Two part.CostHead part.Close
 after_open part.Problem = next.One part.ProblemDefine
 after_open part.ProblemHead = next.One part.ProblemWord
 after_open part.OfDomain = next.Two part.OfDomainWord (part.Statements no_statements)
-after_open (part.Statements seen) = only_if (not (have_all_stood seen)) (next.One (part.Statement seen))
+after_open (part.Statements seen) =
+    only_if (not (have_all_stood seen)) (next.One (part.Statement seen))
 after_open part.Facts = next.Two part.FactHead part.Facts
 after_open part.Valued = next.One part.ValuedHead
 after_open part.Goal = next.Two part.GoalHead part.Close

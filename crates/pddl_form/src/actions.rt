@@ -1,5 +1,6 @@
 ghost use Rattle.std.specs.Prelude.{◌≡◌};
-ghost use Rattle.pddl_form.specs.Actions.{action_name, key, condition_head, effect_head, atom_head, total_word, cost, cost_head, terms};
+ghost use Rattle.pddl_form.specs.Actions.{action_name, key, condition_head, effect_head, atom_head};
+ghost use Rattle.pddl_form.specs.Actions.{total_word, cost, cost_head, terms};
 
 use crate::names::{is_free_sort, is_name_sort, is_term_sort};
 use crate::next::{Next, one, only_if, two};

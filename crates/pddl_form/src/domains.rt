@@ -1,5 +1,6 @@
 ghost use Rattle.std.specs.Prelude.{◌≡◌};
-ghost use Rattle.pddl_form.specs.Domains.{domain_define, domain_word, section, predicate_name, function_name, function_tail, function_type};
+ghost use Rattle.pddl_form.specs.Domains.{domain_define, domain_word, section, predicate_name};
+ghost use Rattle.pddl_form.specs.Domains.{function_name, function_tail, function_type};
 
 use crate::names::is_free_sort;
 use crate::next::{Next, one, only_if, two};

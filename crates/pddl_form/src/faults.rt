@@ -1,5 +1,6 @@
 ghost use Rattle.std.specs.Prelude.{◌≡◌};
-ghost use Rattle.pddl_form.specs.Faults.{is_negation, is_unsupported, is_number_due, is_declared, word_rule, is_either, is_unsupported_list, fault};
+ghost use Rattle.pddl_form.specs.Faults.{is_negation, is_unsupported, is_number_due, is_declared};
+ghost use Rattle.pddl_form.specs.Faults.{word_rule, is_either, is_unsupported_list, fault};
 ghost use Rattle.pddl_form.specs.Readings.{Names};
 
 use crate::names::{is_condition_word, is_effect_word, is_name_sort, is_reserved, is_section_word};

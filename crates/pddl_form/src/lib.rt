@@ -1,4 +1,5 @@
-//! The form of PDDL domains and problems: the words of a text with what each does there, or the first
+//! The form of PDDL domains and problems: the words of a text with what each does there, or the
+//! first
 //! token that no text of the grammar has.
 #![tactic(auto)]
 

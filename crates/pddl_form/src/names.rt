@@ -1,5 +1,6 @@
 ghost use Rattle.std.specs.Prelude.{◌≡◌};
-ghost use Rattle.pddl_form.specs.Names.{is_reserved, is_free_sort, is_name_sort, is_term_sort, is_condition_word, is_effect_word, is_section_word};
+ghost use Rattle.pddl_form.specs.Names.{is_reserved, is_free_sort, is_name_sort, is_term_sort};
+ghost use Rattle.pddl_form.specs.Names.{is_condition_word, is_effect_word, is_section_word};
 
 use crate::sort::Sort;
 

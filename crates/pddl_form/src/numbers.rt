@@ -52,7 +52,8 @@ fn are_zeros(bytes: &[u8]) -> bool
     bytes.iter().all(|byte| *byte == b'0')
 }
 
-/// The number that a word spells: digits, or digits, a point and zeros or nothing. The digits before
+/// The number that a word spells: digits, or digits, a point and zeros or nothing. The digits
+/// before
 /// the point spell 0 to 4294967295.
 pub fn number_of(text: &[u8]) -> Option<u32>
     ensures { result ≡ number text.now }

@@ -45,7 +45,8 @@ pub struct StatementsSeen {
     pub metric: bool,
 }
 
-/// A part of the grammar that is due. A part that names no parenthesis begins inside its list and goes
+/// A part of the grammar that is due. A part that names no parenthesis begins inside its list and
+/// goes
 /// up to the list's `)`, or is the one word that its name says.
 #[derive(Clone, Copy, Debug)]
 pub enum Part {

@@ -1,5 +1,6 @@
 ghost use Rattle.std.specs.Prelude.{◌≡◌};
-ghost use Rattle.pddl_form.specs.Problems.{problem_define, problem_word, of_domain_word, statement, fact_head, valued_head, goal_head, objects, metric};
+ghost use Rattle.pddl_form.specs.Problems.{problem_define, problem_word, of_domain_word, statement};
+ghost use Rattle.pddl_form.specs.Problems.{fact_head, valued_head, goal_head, objects, metric};
 
 use crate::names::{is_free_sort, is_name_sort};
 use crate::next::{Next, one, only_if, two};

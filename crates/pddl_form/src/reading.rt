@@ -1,4 +1,5 @@
-ghost use Rattle.std.specs.Prelude.{◌≡◌, ◌∷◌, ◌++◌, [], ℕ, List as ListOf, reverse, IfOk, OnOk, MatchOption, Some, None, map, if◌then◌else◌};
+ghost use Rattle.std.specs.Prelude.{◌≡◌, ◌∷◌, ◌++◌, [], ℕ, List as ListOf, reverse, IfOk, OnOk};
+ghost use Rattle.std.specs.Prelude.{MatchOption, Some, None, map, if◌then◌else◌};
 ghost use Rattle.std.specs.List.{AllByRecursion};
 ghost use Rattle.pddl_text.specs.Answers.{IfFault, AnswersOk, AnswersFault, Gives};
 ghost use Rattle.pddl_text.specs.Forests.{tokens_of, tokens_of_all};
@@ -90,7 +91,8 @@ impl Reading {
         })
     }
 
-    /// Puts what is due in a part's place on the parts that are due. Answers whether anything may be.
+    /// Puts what is due in a part's place on the parts that are due. Answers whether anything may
+    /// be.
     fn put(&mut self, next: Next) -> Result<bool, NoMemory>
         ensures ok { IfOk result (λ taken. (stop : faults.TextFault) (go : ListOf PartOf → Run) →
             goes next (reverse self.old.due.items) stop go
@@ -245,7 +247,8 @@ fn read_form(alloc: Global, start: Part, forest: &Forest) -> Result<List<Met>, R
     }
 }
 
-/// The words of a domain's text, in written order and each with what it does there, or the first token
+/// The words of a domain's text, in written order and each with what it does there, or the first
+/// token
 /// that no domain has behind the tokens before it.
 pub fn read_domain_form(alloc: Global, forest: &Forest) -> Result<List<Met>, ReadStop>
     // What is answered is the words of the text, or the first place where it is none.

@@ -1,5 +1,6 @@
 ghost use Rattle.std.specs.Prelude.{◌≡◌};
-ghost use Rattle.pddl_form.specs.Table.{after_problem_word, after_word, after_open, may_close, after_close};
+ghost use Rattle.pddl_form.specs.Table.{after_problem_word, after_word, after_open, may_close};
+ghost use Rattle.pddl_form.specs.Table.{after_close};
 
 use crate::actions::{
     action_name, atom_head, condition_head, cost, cost_head, effect_head, key, terms, total_word,

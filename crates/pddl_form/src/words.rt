@@ -1,6 +1,8 @@
 ghost use Rattle.std.specs.Prelude.{◌≡◌};
 ghost use Rattle.std.specs.Str.{bytes_eq};
-ghost use Rattle.pddl_form.specs.Words.{meaning, joining, changing, comparing, naming, dividing_domains, dividing_problems, dividing_others, is_name, is_variable, shape, sort};
+ghost use Rattle.pddl_form.specs.Words.{meaning, joining, changing, comparing, naming};
+ghost use Rattle.pddl_form.specs.Words.{dividing_domains, dividing_problems, dividing_others};
+ghost use Rattle.pddl_form.specs.Words.{is_name, is_variable, shape, sort};
 
 use crate::numbers::number_of;
 use crate::sort::Sort;

@@ -31,7 +31,9 @@ is_calling r = false
 
 -- `total-cost` is no function of a cost or a value
 abbrev pub AreNoTotals : List Word → Type 0
-AreNoTotals words = All (λ (w : Word). IsTrue (is_calling w.role) → bytes_eq w.text (codes "total-cost") ≡ false) words
+AreNoTotals words =
+    All (λ (w : Word). IsTrue (is_calling w.role) → bytes_eq w.text (codes "total-cost") ≡ false)
+    words
 
 -- a word of this role may stand in a problem
 abbrev pub is_of_problem : Role → Bool

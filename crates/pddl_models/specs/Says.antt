@@ -1,5 +1,6 @@
 -- The domain and the model that the words of a text say, over its vocabulary.
-use Rattle.std.specs.Prelude.{ℕ, ◌≡◌, not, Bool, true, false, List, [], ◌∷◌, ◌++◌, map, filter, codes, take_while, Option, None, Some, unwrap_or, if◌then◌else◌}
+use Rattle.std.specs.Prelude.{ℕ, ◌≡◌, not, Bool, true, false, List, [], ◌∷◌, ◌++◌, map, filter}
+use Rattle.std.specs.Prelude.{codes, take_while, Option, None, Some, unwrap_or, if◌then◌else◌}
 use Rattle.std.specs.List.{list_any, position_from}
 use Rattle.std.specs.Option.{option_map}
 use Rattle.std.specs.Str.{bytes_eq}
@@ -23,10 +24,15 @@ use Rattle.pddl_names.specs.declared.role.Role.TheVariants as role
 use Rattle.pddl_names.specs.declared.role.Says.{Says}
 use Rattle.pddl_names.specs.declared.role.Says.TheVariants as says
 use Rattle.pddl_names.specs.declared.role.Word.{Word}
-use Rattle.pddl_names.specs.Listings.{Typed, Signed, Given, types_listed, objects_listed, predicates_in, functions_in, parent_of, terms_behind, values_in, action_params, types_of}
+use Rattle.pddl_names.specs.Listings.{Typed, Signed, Given, types_listed, objects_listed}
+use Rattle.pddl_names.specs.Listings.{predicates_in, functions_in, parent_of, terms_behind}
+use Rattle.pddl_names.specs.Listings.{values_in, action_params, types_of}
 use Rattle.pddl_names.specs.Naming.{is_action, is_variable, same_call}
 use Rattle.pddl_names.specs.Numbers.{entry_name, word_name}
-use Rattle.pddl_vocabulary.specs.Values.{ActionWords, SaysMore, SaysWords, action_said, actions_in, firsts, is_total, names_of, objects_said, place_in, same_entry, signature_said, type_names, type_words, types_said, with_action, with_type_name, words_named}
+use Rattle.pddl_vocabulary.specs.Values.{ActionWords, SaysMore, SaysWords, action_said, actions_in}
+use Rattle.pddl_vocabulary.specs.Values.{firsts, is_total, names_of, objects_said, place_in}
+use Rattle.pddl_vocabulary.specs.Values.{same_entry, signature_said, type_names, type_words}
+use Rattle.pddl_vocabulary.specs.Values.{types_said, with_action, with_type_name, words_named}
 
 -- ---- atoms, costs and bodies
 
@@ -49,24 +55,28 @@ atoms_in due (w ∷ rest) = with_atom due w.role (w.text, terms_behind rest) (at
 
 -- a parameter by its place, and an object by its number
 abbrev pub term_said : List Text → List Text → Text → Term
-term_said objects params text = if is_variable text then Param (place_in params text) else Object (place_in objects text)
+term_said objects params text =
+    if is_variable text then Param (place_in params text) else Object (place_in objects text)
 
 abbrev pub schema_atom_said : List Text → List Text → List Text → Signed → SchemaAtom
 schema_atom_said predicates objects params atom =
     record { predicate = place_in predicates atom.0; args = map (term_said objects params) atom.1 }
 
-abbrev pub cost_at : List Text → List Text → List Text → Word → List Word → Option CostExpr → Option CostExpr
+abbrev pub cost_at : List Text → List Text → List Text → Word → List Word → Option CostExpr
+    → Option CostExpr
 cost_at functions objects params w rest more = by w.role
   where
     by : Role → Option CostExpr
     by role.Numeral = option_map Number (number w.text)
-    by role.Cost = Some (Call (place_in functions w.text) (map (term_said objects params) (terms_behind rest)))
+    by role.Cost =
+        Some (Call (place_in functions w.text) (map (term_said objects params) (terms_behind rest)))
     by r = more
 
 -- the first cost among the words of an action
 abbrev pub increase_in : List Text → List Text → List Text → List Word → Option CostExpr
 increase_in functions objects params [] = None
-increase_in functions objects params (w ∷ rest) = cost_at functions objects params w rest (increase_in functions objects params rest)
+increase_in functions objects params (w ∷ rest) =
+    cost_at functions objects params w rest (increase_in functions objects params rest)
 
 abbrev pub param_names : List Word → List Text
 param_names behind = map (λ (p : Typed). p.0) (action_params behind)
@@ -78,7 +88,8 @@ own_words behind = take_while (λ w. not (is_action w)) behind
 -- the atoms of an action that say this, without repeats
 abbrev pub said_atoms : Says → Vocabulary → List Word → List SchemaAtom
 said_atoms due words behind =
-    firsts same_schema_atom (map (schema_atom_said (words_named words.predicates) (names_of words.objects) (param_names behind)) (atoms_in due (own_words behind)))
+    firsts same_schema_atom (map (schema_atom_said (words_named words.predicates)
+    (names_of words.objects) (param_names behind)) (atoms_in due (own_words behind)))
 
 -- the body of an action, by the words behind its name
 abbrev pub body_said : Vocabulary → ActionWords → Body
@@ -86,7 +97,9 @@ body_said words action = record {
   pre = said_atoms says.Needed words action.1;
   add = said_atoms says.Added words action.1;
   del = said_atoms says.Deleted words action.1;
-  increase = increase_in (words_named words.functions) (names_of words.objects) (param_names action.1) (own_words action.1);
+  increase =
+      increase_in (words_named words.functions) (names_of words.objects) (param_names action.1)
+      (own_words action.1);
 }
 
 -- ---- a domain
@@ -100,7 +113,11 @@ pub record SaysDomain (said : List Word) (domain : Domain) : Type 0 where
 
 abbrev pub ground_atom_said : Vocabulary → Signed → GroundAtom
 ground_atom_said words atom =
-    record { predicate = place_in (words_named words.predicates) atom.0; objects = map (place_in (names_of words.objects)) atom.1 }
+    record {
+      predicate = place_in (words_named words.predicates) atom.0;
+      objects = map
+          (place_in (names_of words.objects)) atom.1;
+    }
 
 -- the facts that say this, without repeats
 abbrev pub facts_said : Says → Vocabulary → List Word → List GroundAtom
@@ -111,8 +128,11 @@ same_given v w = same_call v.0 w.0
 
 -- a value by the numbers of its function and its objects
 abbrev pub value_said : Vocabulary → Given → ℕ × List ℕ × ℕ
-value_said words v =
-    (place_in (words_named words.functions) v.0.0, map (place_in (names_of words.objects)) v.0.1, v.1)
+value_said words v = (
+  place_in (words_named words.functions) v.0.0,
+  map (place_in (names_of words.objects)) v.0.1,
+  v.1,
+)
 
 abbrev pub minimizes : Role → Bool
 minimizes role.Metric = true
@@ -128,7 +148,8 @@ cost_said true increase = unwrap_or increase (Number 0)
 cost_said false increase = Number 1
 
 abbrev pub schema_said : Bool → Body → Schema
-schema_said metric body = record { pre = body.pre; add = body.add; del = body.del; cost = cost_said metric body.increase }
+schema_said metric body =
+    record { pre = body.pre; add = body.add; del = body.del; cost = cost_said metric body.increase }
 
 -- behind the domain, the words say the model
 pub record SaysModel (domain : Domain) (said : List Word) (model : Model) : Type 0 where

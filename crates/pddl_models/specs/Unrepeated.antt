@@ -1,4 +1,5 @@
--- How lists without repeats are made: an entry goes to the end unless the numbers that tell it apart were seen before.
+-- How lists without repeats are made: an entry goes to the end unless the numbers that tell it
+-- apart were seen before.
 use Rattle.std.specs.Prelude.{ℕ, ◌≡◌, Bool, List, [], ◌∷◌, ◌++◌, if◌then◌else◌}
 use Rattle.std.specs.BTreeSet.{contains}
 use Rattle.std.specs.Cmp.Lexicographic.{slice_cmp}
@@ -50,4 +51,6 @@ has_key seen numbers = contains (slice_cmp nat_cmp) seen.keys numbers
 
 -- the numbers of each entry were seen, and no others
 abbrev pub AreSeen : {X : Type 0} → (X → List ℕ) → List X → Seen → Type 0
-AreSeen key_of entries seen = (numbers : List ℕ) → has_key seen numbers ≡ list_any (λ x. same_numbers (key_of x) numbers) entries
+AreSeen key_of entries seen =
+    (numbers : List ℕ) → has_key seen numbers
+    ≡ list_any (λ x. same_numbers (key_of x) numbers) entries

@@ -1,4 +1,5 @@
--- Tables of the names of a vocabulary, and of the parameters of an action, by the places that `place_in` has for them.
+-- Tables of the names of a vocabulary, and of the parameters of an action, by the places that
+-- `place_in` has for them.
 use Rattle.std.specs.Prelude.{◌≡◌, List, unwrap_or}
 use Rattle.mre_base.specs.declared.text.Text.{Text}
 use Rattle.model_kit.specs.declared.vocabulary.Vocabulary.{Vocabulary}

@@ -1,4 +1,5 @@
-ghost use Rattle.std.specs.Prelude.{◌≡◌, ◌+◌, ◌<◌, ◌^◌, ℕ, List, length, drop, map, slice_get, IfOk, IfSome};
+ghost use Rattle.std.specs.Prelude.{◌≡◌, ◌+◌, ◌<◌, ◌^◌, ℕ, List, length, drop, map, slice_get};
+ghost use Rattle.std.specs.Prelude.{IfOk, IfSome};
 ghost use Rattle.std.specs.Option.{option_map};
 ghost use Rattle.model_kit.specs.declared.vocabulary.Vocabulary.{Vocabulary};
 ghost use Rattle.model_kit.specs.Same.{same_schema_atom};
@@ -7,7 +8,8 @@ ghost use Rattle.pddl_names.specs.Listings.{terms_behind};
 ghost use Rattle.pddl_names.specs.Naming.{is_variable};
 ghost use Rattle.pddl_models.specs.WordTables.{ArePlacesOf, AreWordTables};
 ghost use Rattle.pddl_vocabulary.specs.Values.{firsts, words_named, names_of};
-ghost use Rattle.pddl_models.specs.Says.{term_said, schema_atom_said, increase_in, atoms_in, own_words, same_says};
+ghost use Rattle.pddl_models.specs.Says.{term_said, schema_atom_said, increase_in, atoms_in};
+ghost use Rattle.pddl_models.specs.Says.{own_words, same_says};
 ghost use Rattle.pddl_models.specs.Saying.{is_saying};
 
 use crate::unrepeated::{Seen, push_first};
@@ -107,7 +109,8 @@ fn atom_said(
     })
 }
 
-/// The atoms of an action that say this, without repeats, by the words from a place behind its name on.
+/// The atoms of an action that say this, without repeats, by the words from a place behind its name
+/// on.
 pub fn atoms_said(
     alloc: Global,
     tables: &WordTables,

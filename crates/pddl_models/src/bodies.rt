@@ -69,7 +69,8 @@ fn body_said(
     })
 }
 
-/// What the actions of a domain need, add and delete, and how they raise the cost, in the numbers of
+/// What the actions of a domain need, add and delete, and how they raise the cost, in the numbers
+/// of
 /// the vocabulary.
 pub fn bodies_of(
     alloc: Global,
@@ -93,7 +94,8 @@ pub fn bodies_of(
     Ok(made)
 }
 
-/// The domain that words say, of which none breaks a rule of names, over the vocabulary that they say.
+/// The domain that words say, of which none breaks a rule of names, over the vocabulary that they
+/// say.
 pub fn domain_of(alloc: Global, words: Vocabulary, said: &List<Word>) -> Result<Domain, NoMemory>
     requires few { length said.now < 2 ^ 30 }
     requires says { SaysWords said.now words }

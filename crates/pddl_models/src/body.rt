@@ -1,7 +1,8 @@
 use model_kit::{CostExpr, SchemaAtom};
 use mre_base::List;
 
-/// What an action of a domain needs, adds and deletes, and by how much it raises the total cost, where
+/// What an action of a domain needs, adds and deletes, and by how much it raises the total cost,
+/// where
 /// it does.
 #[derive(Debug)]
 pub struct Body {

@@ -1,4 +1,5 @@
-ghost use Rattle.std.specs.Prelude.{◌≡◌, ◌+◌, ◌<◌, ◌^◌, ℕ, List, length, drop, map, slice_get, IfOk, IfSome};
+ghost use Rattle.std.specs.Prelude.{◌≡◌, ◌+◌, ◌<◌, ◌^◌, ℕ, List, length, drop, map, slice_get};
+ghost use Rattle.std.specs.Prelude.{IfOk, IfSome};
 ghost use Rattle.model_kit.specs.declared.vocabulary.Vocabulary.{Vocabulary};
 ghost use Rattle.model_kit.specs.Features.{same_key};
 ghost use Rattle.pddl_names.specs.Listings.{terms_behind, number_behind, values_in};

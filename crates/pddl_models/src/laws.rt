@@ -10,7 +10,8 @@ ghost use Rattle.pddl_models.specs.Saying.{AreNoTotals, AreOfProblem};
 ghost use Rattle.pddl_models.specs.Says.{SaysDomain, SaysModel};
 ghost use Rattle.pddl_models.specs.declared.domain.Domain.{Domain};
 
-/// Words that break no rule of names say a domain over the vocabulary that they say, and behind a domain
+/// Words that break no rule of names say a domain over the vocabulary that they say, and behind a
+/// domain
 /// those of a problem say a model over the vocabulary of both.
 pub fn law_saying()
     ensures some_domain { (said : List Word) (words : Vocabulary) →

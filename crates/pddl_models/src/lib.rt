@@ -1,4 +1,5 @@
-//! What the words of a domain and of a problem say over a vocabulary: the domain, and the model of both.
+//! What the words of a domain and of a problem say over a vocabulary: the domain, and the model of
+//! both.
 #![tactic(auto)]
 
 mod atoms_said;

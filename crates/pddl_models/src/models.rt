@@ -73,7 +73,8 @@ pub fn schemas_said(
     Ok(made)
 }
 
-/// The model that the words of a problem say, of which none breaks a rule of names, behind a domain and
+/// The model that the words of a problem say, of which none breaks a rule of names, behind a domain
+/// and
 /// over the vocabulary of both.
 pub fn model_of(
     alloc: Global,

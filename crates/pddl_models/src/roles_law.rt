@@ -7,7 +7,8 @@ ghost use Rattle.pddl_form.specs.declared.parts.Part.TheVariants as part;
 ghost use Rattle.pddl_names.specs.Roles.{words_of};
 ghost use Rattle.pddl_models.specs.Saying.{AreNoTotals, AreOfProblem};
 
-/// In a text of the grammar `total-cost` is no function of a cost or a value, and the words of a problem
+/// In a text of the grammar `total-cost` is no function of a cost or a value, and the words of a
+/// problem
 /// declare objects alone, and no action.
 pub fn law_roles()
     ensures calls { (start : Part) (tokens : List Token) (met : List Met) →

@@ -10,7 +10,8 @@ use std::cmp::Ordering;
 use std::collections::BTreeSet;
 use std::marker::Model;
 
-/// The numbers that tell an entry of a list apart from the others. Up to eight lie in the value itself.
+/// The numbers that tell an entry of a list apart from the others. Up to eight lie in the value
+/// itself.
 #[derive(Drop)]
 pub struct Key {
     numbers: SmallVec<u32, 8>,

@@ -1,5 +1,6 @@
 -- How many parameters what is declared by a name has. A table of them is `Arities`.
-use Rattle.std.specs.Prelude.{ℕ, ◌≡◌, Bool, true, false, List, [], map, length, Option, Some, if◌then◌else◌}
+use Rattle.std.specs.Prelude.{ℕ, ◌≡◌, Bool, true, false, List, [], map, length, Option, Some}
+use Rattle.std.specs.Prelude.{if◌then◌else◌}
 use Rattle.std.specs.BTreeMap.{get}
 use Rattle.std.specs.Cmp.Lexicographic.{slice_cmp}
 use Rattle.std.specs.Ordering.{nat_cmp}
@@ -40,7 +41,9 @@ count_in table name = get (slice_cmp nat_cmp) table.counts name
 
 -- the name has this count after, and each other name has what it had before
 abbrev pub PutsCount : Arities → Arities → Text → ℕ → Type 0
-PutsCount old new name count = (other : Text) → count_in new other ≡ (if bytes_eq name other then Some count else count_in old other)
+PutsCount old new name count =
+    (other : Text) → count_in new other
+    ≡ (if bytes_eq name other then Some count else count_in old other)
 
 -- the table has how many parameters the first entry of each name has
 abbrev pub AreArities : List Signed → Arities → Type 0

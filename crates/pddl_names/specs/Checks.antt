@@ -6,7 +6,8 @@ use Rattle.pddl_text.specs.declared.fault.TextRule.TheVariants as rule
 use Rattle.pddl_names.specs.declared.role.Word.{Word}
 use Rattle.pddl_names.specs.FirstNames.{first_broken}
 use Rattle.pddl_names.specs.Listings.{Declared, is_term}
-use Rattle.pddl_names.specs.Naming.{is_twice, is_cycle, is_undeclared, is_wrong_arity, is_wrong_type}
+use Rattle.pddl_names.specs.Naming.{is_twice, is_cycle, is_undeclared, is_wrong_arity}
+use Rattle.pddl_names.specs.Naming.{is_wrong_type}
 
 -- the first rule that a word breaks, by what the whole text declares
 abbrev pub first_rule_of : Declared → List Word → Word → List Word → Option TextRule

@@ -24,4 +24,5 @@ fault_or w (Some r) behind = Some (record { at = w.at; rule = r; word = w.text }
 -- the first fault at a name from here on
 abbrev pub first_broken : Declared → List Word → List Word → Option TextFault
 first_broken base before [] = None
-first_broken base before (w ∷ rest) = fault_or w (first_rule (breaks base before w rest)) (first_broken base (before ++ w ∷ []) rest)
+first_broken base before (w ∷ rest) =
+    fault_or w (first_rule (breaks base before w rest)) (first_broken base (before ++ w ∷ []) rest)

@@ -1,4 +1,5 @@
--- Where the types of groups stand: the place of the word that is the type, or a place past the last word for `object`.
+-- Where the types of groups stand: the place of the word that is the type, or a place past the last
+-- word for `object`.
 use Rattle.std.specs.Prelude.{ℕ, ◌≡◌, ◌+◌, ◌<◌, List, codes, length, drop, slice_get, slice_index}
 use Rattle.std.specs.Option.{option_map_or}
 use Rattle.mre_base.specs.declared.text.Text.{Text}
@@ -14,7 +15,8 @@ text_at words place = option_map_or (λ (w : Word). w.text) (slice_get words pla
 -- from a place on, the places are those of the types behind the words
 abbrev pub AreTypePlacesFrom : List Word → ℕ → List ℕ → Type 0
 AreTypePlacesFrom words from places =
-    (place : ℕ) → from < place + 1 → place < length words → text_at words (slice_index places place) ≡ type_behind (drop (place + 1) words)
+    (place : ℕ) → from < place + 1 → place < length words
+    → text_at words (slice_index places place) ≡ type_behind (drop (place + 1) words)
 
 -- the places of the types behind each word
 pub record AreTypePlaces (words : List Word) (places : List ℕ) : Type 0 where
@@ -24,7 +26,8 @@ pub record AreTypePlaces (words : List Word) (places : List ℕ) : Type 0 where
 -- how many terms stand behind each word
 pub record AreTermCounts (words : List Word) (counts : List ℕ) : Type 0 where
   pub count : length counts ≡ length words
-  pub each : (place : ℕ) → 0 < place + 1 → place < length words → slice_index counts place ≡ length (terms_behind (drop (place + 1) words))
+  pub each : (place : ℕ) → 0 < place + 1 → place < length words
+      → slice_index counts place ≡ length (terms_behind (drop (place + 1) words))
 
 -- how many parameters stand from a word of this role on, by how many stand behind it
 abbrev pub own_count : Role → ℕ → ℕ
@@ -36,4 +39,5 @@ own_count r behind = 0
 -- how many parameters stand behind each word
 pub record AreParamCounts (words : List Word) (counts : List ℕ) : Type 0 where
   pub count : length counts ≡ length words
-  pub each : (place : ℕ) → 0 < place + 1 → place < length words → slice_index counts place ≡ length (own_params (drop (place + 1) words))
+  pub each : (place : ℕ) → 0 < place + 1 → place < length words
+      → slice_index counts place ≡ length (own_params (drop (place + 1) words))

@@ -1,5 +1,8 @@
--- What the words of a domain or a problem declare. A listed name has the type behind the dash of its group.
-use Rattle.std.specs.Prelude.{ℕ, ◌+◌, ◌&&◌, ◌||◌, not, Bool, true, false, List, [], ◌∷◌, ◌++◌, map, codes, length, take_while, find, Option, unwrap_or, if◌then◌else◌, zero, suc}
+-- What the words of a domain or a problem declare. A listed name has the type behind the dash of
+-- its group.
+use Rattle.std.specs.Prelude.{ℕ, ◌+◌, ◌&&◌, ◌||◌, not, Bool, true, false, List, [], ◌∷◌, ◌++◌, map}
+use Rattle.std.specs.Prelude.{codes, length, take_while, find, Option, unwrap_or, if◌then◌else◌}
+use Rattle.std.specs.Prelude.{zero, suc}
 use Rattle.std.specs.List.{list_any, range_with_len}
 use Rattle.std.specs.Map.{lookup}
 use Rattle.std.specs.Option.{option_and_then}
@@ -105,11 +108,13 @@ with_function r entry more = more
 -- the predicates and the functions that are declared, in written order
 abbrev pub predicates_in : List Word → List Signed
 predicates_in [] = []
-predicates_in (w ∷ rest) = with_predicate w.role (w.text, types_of (own_params rest)) (predicates_in rest)
+predicates_in (w ∷ rest) =
+    with_predicate w.role (w.text, types_of (own_params rest)) (predicates_in rest)
 
 abbrev pub functions_in : List Word → List Signed
 functions_in [] = []
-functions_in (w ∷ rest) = with_function w.role (w.text, types_of (own_params rest)) (functions_in rest)
+functions_in (w ∷ rest) =
+    with_function w.role (w.text, types_of (own_params rest)) (functions_in rest)
 
 -- ---- values
 
@@ -132,11 +137,13 @@ with_given r entry more = more
 -- the values that are given, in written order
 abbrev pub values_in : List Word → List Given
 values_in [] = []
-values_in (w ∷ rest) = with_given w.role ((w.text, terms_behind rest), number_behind rest) (values_in rest)
+values_in (w ∷ rest) =
+    with_given w.role ((w.text, terms_behind rest), number_behind rest) (values_in rest)
 
 -- ---- what is declared
 
--- what a text and what is before it declare: of a name that is declared again the first entry stands
+-- what a text and what is before it declare: of a name that is declared again the first entry
+-- stands
 pub record Declared : Type 0 where
   pub types : List Typed
   pub objects : List Typed
@@ -173,16 +180,21 @@ ancestor types (suc n) type = parent_of types (ancestor types n type)
 
 -- a type is declared: it is `object`, it is listed, or it is the parent of one that is
 abbrev pub is_type : List Typed → Text → Bool
-is_type types type = bytes_eq type (codes "object") || list_any (λ (e : Typed). bytes_eq e.0 type || bytes_eq e.1 type) types
+is_type types type =
+    bytes_eq type (codes "object") || list_any (λ (e : Typed). bytes_eq e.0 type
+    || bytes_eq e.1 type) types
 
--- a type is another, or its chain of parents reaches the other; a type that is not declared is below none
+-- a type is another, or its chain of parents reaches the other; a type that is not declared is
+-- below none
 abbrev pub is_below : List Typed → Text → Text → Bool
 is_below types type above =
     bytes_eq type above
-    || (is_type types type && list_any (λ n. bytes_eq (ancestor types n type) above) (range_with_len 0 (length types + 3)))
+    || (is_type types type && list_any (λ n. bytes_eq (ancestor types n type) above) (range_with_len
+    0 (length types + 3)))
 
 -- the chain of parents of a type comes back to it; that of `object`, where it has another parent
 abbrev pub comes_back : List Typed → Text → Bool
 comes_back types type =
     if bytes_eq type (codes "object") then not (bytes_eq (parent_of types type) type)
-    else list_any (λ n. bytes_eq (ancestor types (suc n) type) type) (range_with_len 0 (length types + 2))
+    else list_any (λ n. bytes_eq (ancestor types (suc n) type) type)
+    (range_with_len 0 (length types + 2))

@@ -1,6 +1,9 @@
--- Which words of a domain or a problem break a rule of names, and the first of them. A word stands behind the words
+-- Which words of a domain or a problem break a rule of names, and the first of them. A word stands
+-- behind the words
 -- before it and in front of the rest; `base` is what was declared before the text.
-use Rattle.std.specs.Prelude.{ℕ, ◌≡◌, ◌≤◌, ◌==◌, ◌&&◌, not, Bool, true, false, List, [], ◌∷◌, ◌++◌, codes, length, reverse, take_while, find, Option, None, Some, slice_get, if◌then◌else◌}
+use Rattle.std.specs.Prelude.{ℕ, ◌≡◌, ◌≤◌, ◌==◌, ◌&&◌, not, Bool, true, false, List, [], ◌∷◌, ◌++◌}
+use Rattle.std.specs.Prelude.{codes, length, reverse, take_while, find, Option, None, Some}
+use Rattle.std.specs.Prelude.{slice_get, if◌then◌else◌}
 use Rattle.std.specs.Cmp.Lexicographic.{pointwise}
 use Rattle.std.specs.List.{list_any}
 use Rattle.std.specs.Map.{lookup}
@@ -14,7 +17,9 @@ use Rattle.pddl_form.specs.declared.parts.Owner.TheVariants as owner
 use Rattle.pddl_names.specs.declared.role.Role.{Role}
 use Rattle.pddl_names.specs.declared.role.Role.TheVariants as role
 use Rattle.pddl_names.specs.declared.role.Word.{Word}
-use Rattle.pddl_names.specs.Listings.{Typed, Signed, Declared, declared, first_of, type_behind, is_term, terms_behind, own_params, action_params, number_behind, values_in, is_type, is_below, comes_back}
+use Rattle.pddl_names.specs.Listings.{Typed, Signed, Declared, declared, first_of, type_behind}
+use Rattle.pddl_names.specs.Listings.{is_term, terms_behind, own_params, action_params}
+use Rattle.pddl_names.specs.Listings.{number_behind, values_in, is_type, is_below, comes_back}
 use Rattle.pddl_names.specs.PlanNames.{rank}
 
 -- ---- where a word stands
@@ -54,7 +59,8 @@ due_types known w = due w.role
 -- the type that a next term is due to have
 abbrev pub due_type : Declared → List Word → Option Text
 due_type known before =
-    option_and_then (λ head. option_and_then (λ types. slice_get types (terms_before before)) (due_types known head)) (head_of before)
+    option_and_then (λ head. option_and_then (λ types. slice_get types (terms_before before))
+    (due_types known head)) (head_of before)
 
 -- a variable begins with a `?`
 abbrev pub is_variable : Text → Bool
@@ -63,7 +69,8 @@ is_variable (b ∷ text) = b == 63
 
 -- the type of a term, if something declares it: a parameter of the action, or an object
 abbrev pub term_type : Declared → List Typed → Text → Option Text
-term_type known params text = if is_variable text then first_of params text else first_of known.objects text
+term_type known params text =
+    if is_variable text then first_of params text else first_of known.objects text
 
 -- ---- which rules a word breaks
 
@@ -94,8 +101,10 @@ abbrev pub is_other_number : Option ℕ → ℕ → Bool
 is_other_number None n = false
 is_other_number (Some first) n = not (first == n)
 
--- a type is listed again with another parent, an object with another type, a predicate, a function or an action is
--- declared again, a parameter or an increase stands again in one action, or a function has another number
+-- a type is listed again with another parent, an object with another type, a predicate, a function
+-- or an action is
+-- declared again, a parameter or an increase stands again in one action, or a function has another
+-- number
 abbrev pub is_twice : Declared → List Word → Word → List Word → Bool
 is_twice known before w rest = again w.role
   where
@@ -107,7 +116,9 @@ is_twice known before w rest = again w.role
     again role.Action = is_again before w
     again (role.Variable owner.Action) = is_again (action_words before) w
     again role.Increase = is_again (action_words before) w
-    again role.Value = is_other_number (lookup (same_call (w.text, terms_behind rest)) (values_in before)) (number_behind rest)
+    again role.Value =
+        is_other_number (lookup (same_call (w.text, terms_behind rest)) (values_in before))
+        (number_behind rest)
     again r = false
 
 -- the type's chain of parents comes back to it, and it is listed here first
@@ -163,7 +174,9 @@ abbrev pub is_wrong_type : Declared → List Word → Word → List Word → Boo
 is_wrong_type known before w rest = wrong w.role
   where
     wrong : Role → Bool
-    wrong role.Term = is_misfit known.types (term_type known (params_round before w rest) w.text) (due_type known before)
+    wrong role.Term =
+        is_misfit known.types (term_type known (params_round before w rest) w.text)
+        (due_type known before)
     wrong r = false
 
 -- the word breaks the rule
@@ -185,7 +198,9 @@ breaks base before w rest broken = by broken
 
 -- no word breaks a rule
 abbrev pub IsNamed : Declared → List Word → Type 0
-IsNamed base words = (before : List Word) (w : Word) (rest : List Word) → words ≡ before ++ w ∷ rest → (r : TextRule) → breaks base before w rest r ≡ false
+IsNamed base words =
+    (before : List Word) (w : Word) (rest : List Word) → words ≡ before ++ w ∷ rest → (r : TextRule)
+    → breaks base before w rest r ≡ false
 
 -- the fault is the first rule that the first faulty word breaks, at that word
 pub record IsMisnamed (base : Declared) (words : List Word) (fault : TextFault) : Type 0 where

@@ -38,8 +38,11 @@ number_in table name = get (slice_cmp nat_cmp) table.numbers name
 
 -- the name has this number after, and each other name has what it had before
 abbrev pub PutsNumber : NameTable → NameTable → List ℕ → ℕ → Type 0
-PutsNumber old new name number = (other : List ℕ) → number_in new other ≡ (if bytes_eq name other then Some number else number_in old other)
+PutsNumber old new name number =
+    (other : List ℕ) → number_in new other
+    ≡ (if bytes_eq name other then Some number else number_in old other)
 
 -- a table has the numbers of these entries
 abbrev pub IsTableOf : {X : Type 0} → (X → List ℕ) → List X → NameTable → Type 0
-IsTableOf name_of entries table = (name : List ℕ) → number_in table name ≡ number_of name_of entries name
+IsTableOf name_of entries table =
+    (name : List ℕ) → number_in table name ≡ number_of name_of entries name

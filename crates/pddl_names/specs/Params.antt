@@ -1,5 +1,6 @@
 -- Where the parameters of an action are declared first. Places count from 0 in the whole text.
-use Rattle.std.specs.Prelude.{ℕ, ◌≡◌, ◌+◌, Bool, true, false, List, [], ◌∷◌, drop, Option, None, Some, if◌then◌else◌}
+use Rattle.std.specs.Prelude.{ℕ, ◌≡◌, ◌+◌, Bool, true, false, List, [], ◌∷◌, drop, Option, None}
+use Rattle.std.specs.Prelude.{Some, if◌then◌else◌}
 use Rattle.std.specs.Str.{bytes_eq}
 use Rattle.mre_base.specs.declared.text.Text.{Text}
 use Rattle.pddl_form.specs.declared.parts.Owner.TheVariants as owner
@@ -24,11 +25,14 @@ param_at (role.Variable owner.Action) place same later = if same then Some place
 param_at role.Action place same later = None
 param_at r place same later = later
 
--- the place of the first parameter with the name, up to the next action; the words stand from a place on
+-- the place of the first parameter with the name, up to the next action; the words stand from a
+-- place on
 abbrev pub first_param : ℕ → List Word → Text → Option ℕ
 first_param from [] name = None
-first_param from (w ∷ rest) name = param_at w.role from (bytes_eq w.text name) (first_param (from + 1) rest name)
+first_param from (w ∷ rest) name =
+    param_at w.role from (bytes_eq w.text name) (first_param (from + 1) rest name)
 
 -- the table has the first place of each parameter, up to the next action, from a place on
 abbrev pub AreParamPlaces : List Word → ℕ → NameTable → Type 0
-AreParamPlaces words start table = (name : Text) → number_in table name ≡ first_param start (drop start words) name
+AreParamPlaces words start table =
+    (name : Text) → number_in table name ≡ first_param start (drop start words) name

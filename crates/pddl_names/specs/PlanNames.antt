@@ -1,5 +1,7 @@
--- Which lines are a plan over a vocabulary, and where lines that are none first break a rule of names.
-use Rattle.std.specs.Prelude.{ℕ, ◌≡◌, ◌≢◌, ◌<◌, ◌≤◌, suc, List, [], ◌∷◌, length, Some, slice_get, false, All}
+-- Which lines are a plan over a vocabulary, and where lines that are none first break a rule of
+-- names.
+use Rattle.std.specs.Prelude.{ℕ, ◌≡◌, ◌≢◌, ◌<◌, ◌≤◌, suc, List, [], ◌∷◌, length, Some, slice_get}
+use Rattle.std.specs.Prelude.{false, All}
 use Rattle.std.specs.Option.{option_map}
 use Rattle.mre_base.specs.declared.text.Text.{Text}
 use Rattle.pddl_text.specs.declared.fault.TextFault.{TextFault}
@@ -25,7 +27,8 @@ pub data AreObjects (words : Vocabulary) : Words → List ℕ → Type 0 where
       → AreObjects words rest objects
       → AreObjects words (word ∷ rest) (object ∷ objects)
 
--- the words are a ground action: the first is its schema's name, the others name its objects, and they fit
+-- the words are a ground action: the first is its schema's name, the others name its objects, and
+-- they fit
 pub record IsStep (words : Vocabulary) (line : Words) (step : GroundAction) : Type 0 where
   pub head : Text × Place
   pub rest : Words
@@ -50,7 +53,8 @@ AreNamed lines = All (λ (line : PlanLine). 0 < length line.words) lines
 
 -- the line has this word at a place, from 0
 abbrev pub HasWord : Words → ℕ → Text → Type 0
-HasWord line place name = option_map (λ (word : Text × Place). word.0) (slice_get line place) ≡ Some name
+HasWord line place name =
+    option_map (λ (word : Text × Place). word.0) (slice_get line place) ≡ Some name
 
 -- the line's first word is the name of an action, and this is what the action takes
 pub record BeginsWith (words : Vocabulary) (line : Words) (signature : Signature) : Type 0 where
@@ -102,7 +106,8 @@ pub record IsFirstIn (words : Vocabulary) (line : Words) (fault : TextFault) : T
   pub place : ℕ
   pub stands : slice_get line place ≡ Some (fault.word, fault.at)
   pub breaks : Breaks words line place fault.rule
-  pub before : (earlier : ℕ) (broken : TextRule) → earlier < place → ¬ Breaks words line earlier broken
+  pub before : (earlier : ℕ) (broken : TextRule) → earlier < place
+      → ¬ Breaks words line earlier broken
   pub least : (broken : TextRule) → Breaks words line place broken → rank fault.rule ≤ rank broken
 
 -- the fault is the first of the first line that has one

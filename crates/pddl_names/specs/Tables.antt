@@ -1,5 +1,8 @@
--- What the check of names keeps while it goes over the words of a text: tables of what is declared, and where it stands.
-use Rattle.std.specs.Prelude.{ℕ, ◌≡◌, ◌+◌, ◌≤◌, Bool, true, false, List, [], ◌∷◌, codes, take, drop, Option, None, Some, slice_get, slice_index, nat_lt, length, unwrap_or, zero, suc, if◌then◌else◌}
+-- What the check of names keeps while it goes over the words of a text: tables of what is declared,
+-- and where it stands.
+use Rattle.std.specs.Prelude.{ℕ, ◌≡◌, ◌+◌, ◌≤◌, Bool, true, false, List, [], ◌∷◌, codes, take, drop}
+use Rattle.std.specs.Prelude.{Option, None, Some, slice_get, slice_index, nat_lt, length, unwrap_or}
+use Rattle.std.specs.Prelude.{zero, suc, if◌then◌else◌}
 use Rattle.std.specs.List.{list_any, between}
 use Rattle.pddl_names.specs.declared.kind.Kind.TheVariants as kind
 use Rattle.pddl_names.specs.declared.name_tables.Names.{Names}
@@ -45,13 +48,15 @@ value_at r place same later = later
 -- the place of the first value with such a call; the words stand from a place on
 abbrev pub first_value : (Signed → Bool) → ℕ → List Word → Option ℕ
 first_value such from [] = None
-first_value such from (w ∷ rest) = value_at w.role from (such (call_at w rest)) (first_value such (from + 1) rest)
+first_value such from (w ∷ rest) =
+    value_at w.role from (such (call_at w rest)) (first_value such (from + 1) rest)
 
 -- at the place of each value stands that of the first with its call
 abbrev pub AreFirstValues : List Word → List ℕ → Type 0
 AreFirstValues words firsts =
     (place : ℕ) (w : Word) → slice_get words place ≡ Some w → w.role ≡ role.Value
-    → slice_index firsts place ≡ unwrap_or (first_value (same_call (call_at w (drop (place + 1) words))) 0 words) 0
+    → slice_index firsts place ≡ unwrap_or (first_value
+    (same_call (call_at w (drop (place + 1) words))) 0 words) 0
 
 -- the tables are those of what is declared and of these words
 pub record AreTables (known : Declared) (words : List Word) (tables : Tables) : Type 0 where
@@ -64,7 +69,8 @@ pub record AreTables (known : Declared) (words : List Word) (tables : Tables) : 
   pub values : AreFirstValues words tables.values.items
   pub sizes : AreSized words tables
 
--- the action in which the word at a place stands: where the words behind its name begin, and its parameters
+-- the action in which the word at a place stands: where the words behind its name begin, and its
+-- parameters
 pub record IsRound (words : List Word) (place : ℕ) (round : Round) : Type 0 where
   pub within : round.start ≤ place
   pub words_are : action_words (take place words) ≡ between round.start place words

@@ -1,6 +1,8 @@
--- Which bytes are the text of a domain or a problem, what they say, and where bytes that are none break a rule first:
+-- Which bytes are the text of a domain or a problem, what they say, and where bytes that are none
+-- break a rule first:
 -- in three passes, the words and lists of the text, its form, and its names.
-use Rattle.std.specs.Prelude.{ℕ, ◌≡◌, List, [], map, codes, Option, None, Some, Result, Ok, Err, unwrap_or, slice_get}
+use Rattle.std.specs.Prelude.{ℕ, ◌≡◌, List, [], map, codes, Option, None, Some, Result, Ok, Err}
+use Rattle.std.specs.Prelude.{unwrap_or, slice_get}
 use Rattle.std.specs.Option.{option_map}
 use Rattle.mre_base.specs.declared.text.Text.{Text}
 use Rattle.pddl_text.specs.declared.fault.TextFault.{TextFault}
@@ -43,9 +45,11 @@ declared_by words = record {
 
 -- ---- texts
 
--- the bytes are a text of the grammar that begins with this part, its words are these, and none breaks a rule of names
+-- the bytes are a text of the grammar that begins with this part, its words are these, and none
+-- breaks a rule of names
 -- behind what was declared before
-pub record IsSaid (start : Part) (base : Declared) (bytes : List ℕ) (said : List Word) : Type 0 where
+pub record IsSaid (start : Part) (base : Declared) (bytes : List ℕ)
+    (said : List Word) : Type 0 where
   pub forest : Forest
   pub met : List Met
   pub spelled : Spells bytes forest
@@ -53,8 +57,10 @@ pub record IsSaid (start : Part) (base : Declared) (bytes : List ℕ) (said : Li
   pub words : said ≡ words_of met
   pub named : IsNamed base said
 
--- the first fault of the bytes: of their words and lists, and else of their form, and else of their names
-pub data IsUnsaid (start : Part) (base : Declared) (bytes : List ℕ) (fault : TextFault) : Type 0 where
+-- the first fault of the bytes: of their words and lists, and else of their form, and else of their
+-- names
+pub data IsUnsaid (start : Part) (base : Declared) (bytes : List ℕ)
+    (fault : TextFault) : Type 0 where
   text : IsFirstFault bytes fault → IsUnsaid start base bytes fault
   form : (forest : Forest)
       → Spells bytes forest

@@ -1,4 +1,5 @@
--- The types with their parents as numbers: each name that is listed, each parent and `object` has a number, and so has its
+-- The types with their parents as numbers: each name that is listed, each parent and `object` has a
+-- number, and so has its
 -- parent.
 use Rattle.std.specs.Prelude.{ℕ, ◌≡◌, List, [], ◌∷◌, ◌++◌, map, codes, length, unwrap_or}
 use Rattle.pddl_names.specs.declared.type_tree.TypeTree.{TypeTree}

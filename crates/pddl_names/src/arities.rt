@@ -1,7 +1,8 @@
 ghost use Rattle.std.specs.Prelude.{◌≡◌, ◌<◌, ◌^◌, ◌++◌, ℕ, List, length, map, IfOk, OnOk, IsTrue};
 ghost use Rattle.std.specs.Option.{option_or};
 ghost use Rattle.mre_base.specs.declared.text.Text as texts;
-ghost use Rattle.pddl_names.specs.Arities.{count_in, is_signed, signed_in, signed_before, arity_of, AreArities, PutsCount};
+ghost use Rattle.pddl_names.specs.Arities.{count_in, is_signed, signed_in, signed_before, arity_of};
+ghost use Rattle.pddl_names.specs.Arities.{AreArities, PutsCount};
 ghost use Rattle.pddl_names.specs.Groups.{AreParamCounts};
 
 use crate::kind::Kind;
@@ -61,7 +62,8 @@ impl Arities {
     // With what was declared before, which stands before what is in the table.
     fn with_base(self, alloc: Global, base: &List<Signature>) -> Result<Arities, NoMemory>
         ensures ok { IfOk result (λ made. (types : List (texts.Text × ℕ)) (name : texts.Text) →
-            count_in made name ≡ option_or (arity_of (signed_before types base.now) name) (count_in self name)) }
+            count_in made name ≡ option_or (arity_of (signed_before types base.now) name) (count_in
+            self name)) }
     {
         let mut made = self;
         for place in (0..base.len()).rev() {

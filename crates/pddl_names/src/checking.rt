@@ -1,4 +1,5 @@
-ghost use Rattle.std.specs.Prelude.{◌≡◌, ◌+◌, ◌<◌, ◌^◌, [], IfOk, IfSome, length, take, drop, slice_get};
+ghost use Rattle.std.specs.Prelude.{◌≡◌, ◌+◌, ◌<◌, ◌^◌, [], IfOk, IfSome, length, take, drop};
+ghost use Rattle.std.specs.Prelude.{slice_get};
 ghost use Rattle.pddl_names.specs.declared.role.Word as said;
 ghost use Rattle.pddl_names.specs.Checks.{first_rule_of, names_read, next_from};
 ghost use Rattle.pddl_names.specs.Known.{declared_before};
@@ -23,7 +24,8 @@ use std::alloc::Global;
 // More words than any text has.
 const MANY: usize = 1 << 29;
 
-/// Whether the words of a text break no rule of names behind what was declared before; else the first
+/// Whether the words of a text break no rule of names behind what was declared before; else the
+/// first
 /// fault. Memory runs out where there are more words than any text has.
 pub fn check_names(alloc: Global, base: Base<'_>, words: &List<Word>) -> Result<(), ReadStop>
     ensures ok { IfOk result (λ _. IsNamed (declared_before base.entry) words.now) }

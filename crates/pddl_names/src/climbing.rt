@@ -1,10 +1,12 @@
-ghost use Rattle.std.specs.Prelude.{◌≡◌, ◌++◌, ◌+◌, ◌<◌, ◌^◌, length, map, codes, IfOk, List, Some, slice_index};
+ghost use Rattle.std.specs.Prelude.{◌≡◌, ◌++◌, ◌+◌, ◌<◌, ◌^◌, length, map, codes, IfOk, List, Some};
+ghost use Rattle.std.specs.Prelude.{slice_index};
 ghost use Rattle.std.specs.Str.{bytes_eq};
 ghost use Rattle.pddl_names.specs.Firsts.{typed_name};
 ghost use Rattle.pddl_names.specs.Forests.{AreUps};
 ghost use Rattle.pddl_names.specs.Listings.{Typed, is_type, is_below, comes_back};
 ghost use Rattle.pddl_names.specs.Numbers.{number_of};
-ghost use Rattle.pddl_names.specs.TypeTrees.{parent_entry, with_parents, parent_number, AreTypes, IsSoundTree};
+ghost use Rattle.pddl_names.specs.TypeTrees.{parent_entry, with_parents, parent_number, AreTypes};
+ghost use Rattle.pddl_names.specs.TypeTrees.{IsSoundTree};
 
 use crate::firsts::TypedList;
 use crate::forests::{does_reach, forest_of, up};

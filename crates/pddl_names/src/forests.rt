@@ -1,12 +1,15 @@
-ghost use Rattle.std.specs.Prelude.{◌≡◌, ◌⊎◌, ◌+◌, ◌-◌, ◌<◌, ◌≤◌, ◌^◌, ℕ, IfOk, OnOk, length, slice_set, true, false};
+ghost use Rattle.std.specs.Prelude.{◌≡◌, ◌⊎◌, ◌+◌, ◌-◌, ◌<◌, ◌≤◌, ◌^◌, ℕ, IfOk, OnOk, length};
+ghost use Rattle.std.specs.Prelude.{slice_set, true, false};
 ghost use Rattle.std.specs.Bool.{Decides};
 ghost use Rattle.std.specs.List.{slice_index_or};
-ghost use Rattle.pddl_names.specs.Forests.{up, node_at, AreUps, climb, Reaches, IsMarked, IsPath, IsSettled, IsForest, IsUnder, IsStep};
+ghost use Rattle.pddl_names.specs.Forests.{up, node_at, AreUps, climb, Reaches, IsMarked, IsPath};
+ghost use Rattle.pddl_names.specs.Forests.{IsSettled, IsForest, IsUnder, IsStep};
 
 use mre_base::NoMemory;
 use std::alloc::Global;
 
-/// What is known of a number in a forest: the root above it, how deep it stands below that root, and a
+/// What is known of a number in a forest: the root above it, how deep it stands below that root,
+/// and a
 /// number above it to which one can jump.
 #[derive(Clone, Copy)]
 pub struct Node {
@@ -49,7 +52,8 @@ fn is_marked(marks: &Vec<bool>, number: u32) -> bool
     }
 }
 
-// Where one jumps to from a number below a parent, after Myers: as far as from the parent twice, where
+// Where one jumps to from a number below a parent, after Myers: as far as from the parent twice,
+// where
 // both jumps from there are equally long.
 fn jump_below(nodes: &Vec<Node>, parent: u32) -> u32
     ensures { (result ≡ parent)
@@ -80,7 +84,8 @@ fn below(ups: &Vec<u32>, nodes: &Vec<Node>, number: u32) -> Node
     ensures root { result.root ≡ (node_at nodes.now.items (up ups.now.items number)).root }
     ensures depth { result.depth ≡ (node_at nodes.now.items (up ups.now.items number)).depth + 1 }
     ensures jump { (result.jump ≡ up ups.now.items number)
-        ⊎ (result.jump ≡ (node_at nodes.now.items (node_at nodes.now.items (up ups.now.items number)).jump).jump) }
+        ⊎ (result.jump ≡ (node_at nodes.now.items
+        (node_at nodes.now.items (up ups.now.items number)).jump).jump) }
 {
     let parent = up(ups, number);
     let above = node_at(nodes, parent);
@@ -119,9 +124,14 @@ fn path_from(
 fn settle_end(nodes: &mut Vec<Node>, done: &mut Vec<bool>, end: u32)
     requires nodes { end < length nodes.old.items }
     requires done { end < length done.old.items }
-    ensures { (IsMarked done.old.items end × (nodes.new.items ≡ nodes.old.items) × (done.new.items ≡ done.old.items))
+    ensures { (IsMarked done.old.items end × (nodes.new.items ≡ nodes.old.items)
+        × (done.new.items ≡ done.old.items))
         ⊎ ((slice_index_or done.old.items end false ≡ false)
-        × (nodes.new.items ≡ slice_set nodes.old.items end (record { root = end; depth = 0; jump = end }))
+        × (nodes.new.items ≡ slice_set nodes.old.items end (record {
+          root = end;
+          depth = 0;
+          jump = end;
+        }))
         × (done.new.items ≡ slice_set done.old.items end true)) }
 {
     if is_marked(done, end) {

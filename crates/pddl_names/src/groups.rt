@@ -1,5 +1,6 @@
 ghost use Rattle.std.specs.Prelude.{◌≡◌, ◌<◌, ◌^◌, length, slice_get, IfSome, IfOk};
-ghost use Rattle.pddl_names.specs.Groups.{text_at, own_count, AreTypePlaces, AreTermCounts, AreParamCounts};
+ghost use Rattle.pddl_names.specs.Groups.{text_at, own_count, AreTypePlaces, AreTermCounts};
+ghost use Rattle.pddl_names.specs.Groups.{AreParamCounts};
 ghost use Rattle.pddl_names.specs.Listings.{type_at, is_term};
 
 use crate::role::{Role, Word};

@@ -1,4 +1,5 @@
-ghost use Rattle.std.specs.Prelude.{IsTrue, List, ◌≡◌, ◌<◌, ◌^◌, ◌+◌, length, drop, IfSome, IfOk, slice_get};
+ghost use Rattle.std.specs.Prelude.{IsTrue, List, ◌≡◌, ◌<◌, ◌^◌, ◌+◌, length, drop, IfSome, IfOk};
+ghost use Rattle.std.specs.Prelude.{slice_get};
 ghost use Rattle.pddl_names.specs.declared.role.Word as said;
 ghost use Rattle.pddl_names.specs.Heads.{AreHeads, due_count, is_head, is_unknown_head};
 ghost use Rattle.pddl_names.specs.Listings.{Declared};

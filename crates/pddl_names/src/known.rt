@@ -6,7 +6,8 @@ use model_kit::Signature;
 use mre_base::{List, NoMemory, Text};
 use std::alloc::Global;
 
-/// What is declared, in written order: the types with their parents, the objects with their types, and
+/// What is declared, in written order: the types with their parents, the objects with their types,
+/// and
 /// the predicates and the functions with the types of their parameters.
 #[derive(Drop)]
 pub struct Known {

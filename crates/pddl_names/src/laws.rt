@@ -4,7 +4,8 @@ ghost use Rattle.pddl_text.specs.declared.plan.PlanLine.{PlanLine};
 ghost use Rattle.model_kit.specs.declared.action.GroundAction.{GroundAction};
 ghost use Rattle.model_kit.specs.declared.action.Plan.{Plan};
 ghost use Rattle.model_kit.specs.declared.vocabulary.Vocabulary.{Vocabulary};
-ghost use Rattle.pddl_names.specs.PlanNames.{IsPlan, IsFirstMisnamed, IsPlanText, IsFirstFault, AreNamed};
+ghost use Rattle.pddl_names.specs.PlanNames.{IsPlan, IsFirstMisnamed, IsPlanText, IsFirstFault};
+ghost use Rattle.pddl_names.specs.PlanNames.{AreNamed};
 ghost use Rattle.pddl_names.specs.Listings.{Declared};
 ghost use Rattle.pddl_names.specs.Naming.{IsNamed, IsMisnamed};
 ghost use Rattle.pddl_names.specs.Texts.{IsSaid, IsUnsaid};
@@ -43,7 +44,8 @@ pub fn law_plans()
         IsFirstFault words bytes fault → IsFirstFault words bytes other → fault ≡ other }
 {}
 
-/// Behind what was declared before, the words of a domain or a problem break no rule of names, or one
+/// Behind what was declared before, the words of a domain or a problem break no rule of names, or
+/// one
 /// of them has the first fault, never both, and there is one first fault at most.
 pub fn law_names()
     ensures either { (base : Declared) (words : List Word) →
@@ -54,7 +56,8 @@ pub fn law_names()
         IsMisnamed base words fault → IsMisnamed base words other → fault ≡ other }
 {}
 
-/// Behind what was declared before, each text says the words of a domain or a problem or has a first
+/// Behind what was declared before, each text says the words of a domain or a problem or has a
+/// first
 /// fault, never both, and only one of either.
 pub fn law_texts()
     ensures either { (start : Part) → IsWhole start → (base : Declared) (bytes : List ℕ) →

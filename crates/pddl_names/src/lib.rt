@@ -1,4 +1,5 @@
-//! The rules of names: which words of a domain, a problem or a plan break one, and what the words of a plan mean.
+//! The rules of names: which words of a domain, a problem or a plan break one, and what the words
+//! of a plan mean.
 #![tactic(auto)]
 
 mod arities;

@@ -1,7 +1,8 @@
 ghost use Rattle.std.specs.Prelude.{◌≡◌, ◌+◌, ◌++◌, ◌<◌, length, drop, IfOk, IsTrue};
 ghost use Rattle.pddl_names.specs.Arities.{is_signed, signed_in};
 ghost use Rattle.pddl_names.specs.Groups.{text_at, AreTypePlaces};
-ghost use Rattle.pddl_names.specs.Known.{declared_in, is_typed, typed_in, is_variable_role, is_group_role};
+ghost use Rattle.pddl_names.specs.Known.{declared_in, is_typed, typed_in, is_variable_role};
+ghost use Rattle.pddl_names.specs.Known.{is_group_role};
 ghost use Rattle.pddl_names.specs.Listings.{declared, own_params, types_of};
 
 use crate::kind::Kind;
@@ -19,7 +20,8 @@ impl Known {
         places: &Vec<u32>,
     ) -> Result<Known, NoMemory>
         requires places { AreTypePlaces words.now places.now.items }
-        ensures ok { IfOk result (λ made. declared_in made ≡ declared (declared_in self) words.now) }
+        ensures ok { IfOk result (λ made. declared_in made
+            ≡ declared (declared_in self) words.now) }
     {
         Ok(Known {
             types: with_typed(alloc, self.types, words, places, Kind::Types)?,

@@ -78,7 +78,8 @@ impl Drop for Tables {
 impl Tables {
     pub fn of(alloc: Global, base: Base<'_>, words: &List<Word>) -> Result<Tables, NoMemory>
         requires few { length words.now < 2 ^ 30 }
-        ensures ok { IfOk result (AreTables (declared (declared_before base.entry) words.now) words.now) }
+        ensures ok { IfOk result (AreTables (declared (declared_before base.entry) words.now)
+            words.now) }
     {
         let types = type_places(alloc, words)?;
         let terms = term_counts(alloc, words)?;
@@ -105,7 +106,8 @@ fn heads_of(
 ) -> Result<Heads, NoMemory>
     requires few { length words.now < 2 ^ 30 }
     requires terms { AreTermCounts words.now terms.items }
-    ensures ok { IfOk result (AreHeads (declared (declared_before base.entry) words.now) words.now) }
+    ensures ok { IfOk result (AreHeads (declared (declared_before base.entry) words.now)
+        words.now) }
 {
     let params = param_counts(alloc, words)?;
     Ok(Heads {
@@ -116,7 +118,8 @@ fn heads_of(
     })
 }
 
-/// The action in which a word stands: where the words behind its name begin, and where its parameters
+/// The action in which a word stands: where the words behind its name begin, and where its
+/// parameters
 /// are declared first.
 #[derive(Drop)]
 pub struct Round {

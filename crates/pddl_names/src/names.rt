@@ -94,7 +94,8 @@ impl NameTable {
         Ok(table)
     }
 
-    /// Where the parameters of an action are declared first, by the words from a place behind its name on.
+    /// Where the parameters of an action are declared first, by the words from a place behind its
+    /// name on.
     pub fn of_params(alloc: Global, words: &List<Word>, start: usize) -> Result<NameTable, NoMemory>
         requires few { length words.now < 2 ^ 30 }
         ensures ok { IfOk result (λ table. AreParamPlaces words.now start table) }

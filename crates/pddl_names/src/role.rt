@@ -6,7 +6,8 @@ use mre_base::Text;
 use pddl_form::{Listing, Owner, Part, Sort};
 use pddl_text::Place;
 
-/// What an atom says: that an action needs, adds or deletes it, that it is true at the start, or that
+/// What an atom says: that an action needs, adds or deletes it, that it is true at the start, or
+/// that
 /// it is to become true.
 #[derive(Clone, Copy, Debug)]
 pub enum Says {

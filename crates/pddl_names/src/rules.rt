@@ -1,4 +1,5 @@
-ghost use Rattle.std.specs.Prelude.{◌≡◌, ◌+◌, ◌<◌, ◌≤◌, ◌&&◌, IsTrue, List, codes, length, map, take, drop, IfSome, slice_get};
+ghost use Rattle.std.specs.Prelude.{◌≡◌, ◌+◌, ◌<◌, ◌≤◌, ◌&&◌, IsTrue, List, codes, length, map};
+ghost use Rattle.std.specs.Prelude.{take, drop, IfSome, slice_get};
 ghost use Rattle.std.specs.List.{list_any, between};
 ghost use Rattle.std.specs.Option.{option_map};
 ghost use Rattle.std.specs.Str.{bytes_eq};
@@ -10,7 +11,8 @@ ghost use Rattle.pddl_names.specs.Kinds.{declares};
 ghost use Rattle.pddl_names.specs.Listings.{Declared};
 ghost use Rattle.pddl_names.specs.Naming.{is_other, is_twice, is_cycle, is_undeclared, due_types};
 ghost use Rattle.pddl_names.specs.Params.{is_param};
-ghost use Rattle.pddl_names.specs.Tables.{AreNames, AreTables, AreSized, IsRound, is_increase_role, first_before};
+ghost use Rattle.pddl_names.specs.Tables.{AreNames, AreTables, AreSized, IsRound, is_increase_role};
+ghost use Rattle.pddl_names.specs.Tables.{first_before};
 ghost use Rattle.pddl_names.specs.Numbers.{number_in};
 
 use crate::climbing::is_same;
@@ -48,7 +50,8 @@ fn stands_at(words: &List<Word>, place: u32, text: &Text) -> bool
 
 // Whether there is a type, and it is another than stands at a place.
 fn is_other_type(first: Option<&Text>, words: &List<Word>, place: u32) -> bool
-    ensures { result ≡ is_other (option_map (λ text. text.now) first.entry) (text_at words.now place) }
+    ensures { result ≡ is_other (option_map (λ text. text.now) first.entry) (text_at words.now
+        place) }
 {
     match first {
         Some(text) => !stands_at(words, place, text),
@@ -67,7 +70,8 @@ fn is_increase(word: &Word, text: &Text) -> bool
 fn is_increased(words: &List<Word>, start: usize, place: usize, text: &Text) -> bool
     requires place { place < length words.now }
     requires start { start ≤ place }
-    ensures { result ≡ list_any (λ (v : said.Word). is_increase_role v.role && bytes_eq v.text text.now)
+    ensures { result ≡ list_any (λ (v : said.Word). is_increase_role v.role
+        && bytes_eq v.text text.now)
         (between start place words.now) }
 {
     for earlier in start..place {
@@ -116,8 +120,10 @@ fn is_listed_before(words: &List<Word>, place: usize, name: &Text) -> bool
 }
 
 impl Tables {
-    /// Whether a type is listed again with another parent, an object with another type, a predicate, a
-    /// function or an action is declared again, a parameter or an increase stands again in one action,
+    /// Whether a type is listed again with another parent, an object with another type, a
+    /// predicate, a
+    /// function or an action is declared again, a parameter or an increase stands again in one
+    /// action,
     /// or a function has another number.
     pub(crate) fn is_twice(&self, words: &List<Word>, place: usize, round: &Round) -> bool
         requires place { place < length words.now }
@@ -151,12 +157,14 @@ impl Tables {
         }
     }
 
-    /// Whether a type is listed whose chain of parents comes back to it, and it is listed here first.
+    /// Whether a type is listed whose chain of parents comes back to it, and it is listed here
+    /// first.
     pub(crate) fn is_cycle(&self, words: &List<Word>, place: usize) -> bool
         requires place { place < length words.now }
         requires sizes { AreSized words.now self.now }
         ensures { (known : Declared) → AreTables known words.now self.now →
-            IfSome (slice_get words.now place) (λ w. result ≡ is_cycle known (take place words.now) w) }
+            IfSome (slice_get words.now place) (λ w. result
+            ≡ is_cycle known (take place words.now) w) }
     {
         let word = words.item(place);
         match word.role {

@@ -1,9 +1,11 @@
-ghost use Rattle.std.specs.Prelude.{◌≡◌, ◌+◌, ◌-◌, ◌<◌, ◌≤◌, IsTrue, List, length, drop, take, IfSome, slice_get};
+ghost use Rattle.std.specs.Prelude.{◌≡◌, ◌+◌, ◌-◌, ◌<◌, ◌≤◌, IsTrue, List, length, drop, take};
+ghost use Rattle.std.specs.Prelude.{IfSome, slice_get};
 ghost use Rattle.std.specs.Option.{option_map};
 ghost use Rattle.pddl_names.specs.declared.role.Word as said;
 ghost use Rattle.pddl_names.specs.Groups.{text_at};
 ghost use Rattle.pddl_names.specs.Listings.{Declared, is_term};
-ghost use Rattle.pddl_names.specs.Naming.{is_variable, params_round, term_type, due_type, is_wrong_type};
+ghost use Rattle.pddl_names.specs.Naming.{is_variable, params_round, term_type, due_type};
+ghost use Rattle.pddl_names.specs.Naming.{is_wrong_type};
 ghost use Rattle.pddl_names.specs.Tables.{AreNames, AreTables, AreSized, IsRound, AreTermsFrom};
 
 use crate::groups::is_term;
@@ -34,7 +36,8 @@ impl Tables {
         }
     }
 
-    /// The type of a term, if something declares it: a parameter of the action in which a word stands,
+    /// The type of a term, if something declares it: a parameter of the action in which a word
+    /// stands,
     /// or an object.
     pub(crate) fn term_type<'a>(
         &'a self,
@@ -48,7 +51,8 @@ impl Tables {
         requires sizes { AreSized words.now self.now }
         ensures { (known : Declared) → AreTables known words.now self.now →
             IfSome (slice_get words.now place) (λ w. option_map (λ type. type.now) result
-            ≡ term_type known (params_round (take place words.now) w (drop (place + 1) words.now)) text.now) }
+            ≡ term_type known (params_round (take place words.now) w (drop (place + 1) words.now))
+            text.now) }
     {
         if !is_variable(text) {
             return self.names.objects.first(text);

@@ -1,7 +1,8 @@
 use crate::firsts::TypedList;
 use crate::forests::Node;
 
-/// The types with their parents, by number. Also a parent that isn't listed itself has a number, and
+/// The types with their parents, by number. Also a parent that isn't listed itself has a number,
+/// and
 /// `object` has one.
 pub struct TypeTree {
     pub names: TypedList,

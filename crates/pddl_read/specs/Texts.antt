@@ -1,4 +1,5 @@
--- Which bytes are the text of a domain or of a problem, the domain or the model that they say, and the first fault of bytes that are none.
+-- Which bytes are the text of a domain or of a problem, the domain or the model that they say, and
+-- the first fault of bytes that are none.
 use Rattle.std.specs.Prelude.{ℕ, ◌<◌, ◌^◌, List, length}
 use Rattle.pddl_text.specs.declared.fault.TextFault.{TextFault}
 use Rattle.pddl_form.specs.declared.parts.Part.TheVariants as part

@@ -17,7 +17,8 @@ pub fn law_domains()
         IsDomainFault bytes fault → IsDomainFault bytes other → fault ≡ other }
 {}
 
-/// Behind a domain, each text is of a model or has a first fault, never both, and only one of either.
+/// Behind a domain, each text is of a model or has a first fault, never both, and only one of
+/// either.
 pub fn law_problems()
     ensures either { (domain : Domain) (bytes : List ℕ) →
         ((model : Model) × IsProblemText domain bytes model)

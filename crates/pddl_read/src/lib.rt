@@ -1,4 +1,5 @@
-//! The readers of PDDL: a domain, a problem of a domain, and a plan over a vocabulary, each from its bytes.
+//! The readers of PDDL: a domain, a problem of a domain, and a plan over a vocabulary, each from
+//! its bytes.
 #![tactic(auto)]
 
 mod laws;

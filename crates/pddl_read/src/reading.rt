@@ -12,7 +12,8 @@ ghost use Rattle.pddl_vocabulary.specs.Formed.{AreFormed};
 ghost use Rattle.pddl_models.specs.Says.{SaysDomain, SaysModel};
 ghost use Rattle.pddl_models.specs.Saying.{AreNoTotals, AreOfProblem};
 ghost use Rattle.pddl_models.specs.declared.domain.Domain as domains;
-ghost use Rattle.pddl_read.specs.Texts.{IsDomainText, IsProblemText, IsDomainFault, IsProblemFault, AreFew};
+ghost use Rattle.pddl_read.specs.Texts.{IsDomainText, IsProblemText, IsDomainFault, IsProblemFault};
+ghost use Rattle.pddl_read.specs.Texts.{AreFew};
 
 use model_kit::{Model, Vocabulary};
 use mre_base::{List, NoMemory};
@@ -110,10 +111,14 @@ fn model_said(alloc: Global, domain: &Domain, said: &List<Word>) -> Result<Model
     model_of(alloc, domain, words, said)
 }
 
-/// The domain of a text of PDDL (STRIPS with typing, constants and action costs), or the text's first
-/// fault: the first place where it breaks a rule of words and lists, else the first token that no domain
-/// has behind the tokens before it, else the first word that breaks a rule of names, with the word there
-/// and the first rule that it breaks. Entries are numbered in the order in which the text first names
+/// The domain of a text of PDDL (STRIPS with typing, constants and action costs), or the text's
+/// first
+/// fault: the first place where it breaks a rule of words and lists, else the first token that no
+/// domain
+/// has behind the tokens before it, else the first word that breaks a rule of names, with the word
+/// there
+/// and the first rule that it breaks. Entries are numbered in the order in which the text first
+/// names
 /// them; `object` is the first type, and `total-cost` is no function.
 pub fn read_domain(alloc: Global, bytes: &[u8]) -> Result<Domain, ReadStop>
     requires short { length bytes.now < 2 ^ 28 }
@@ -137,9 +142,11 @@ pub fn read_domain(alloc: Global, bytes: &[u8]) -> Result<Domain, ReadStop>
     }
 }
 
-/// The model of a domain and a text of one of its problems, or the text's first fault, as `read_domain`
+/// The model of a domain and a text of one of its problems, or the text's first fault, as
+/// `read_domain`
 /// tells it. The domain's names stand as declared before the text; the problem's objects follow the
-/// domain's constants. Without the metric each action costs 1; with it an action costs what its increase
+/// domain's constants. Without the metric each action costs 1; with it an action costs what its
+/// increase
 /// says, and 0 where it has none.
 pub fn read_problem(alloc: Global, bytes: &[u8], domain: &Domain) -> Result<Model, ReadStop>
     requires short { length bytes.now < 2 ^ 28 }

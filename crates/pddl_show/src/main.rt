@@ -1,4 +1,5 @@
-//! A small program over the readers of PDDL: prints what a domain, a problem or a plan holds, or its first fault.
+//! A small program over the readers of PDDL: prints what a domain, a problem or a plan holds, or
+//! its first fault.
 #![tactic(auto)]
 
 mod reading;
@@ -12,7 +13,8 @@ use std::env;
 use std::io::ErrorKind;
 use std::process::ExitCode;
 
-/// The statuses of `mre`: usage, a failed read, a failed write, a fault, a file past its limit, want of memory.
+/// The statuses of `mre`: usage, a failed read, a failed write, a fault, a file past its limit,
+/// want of memory.
 const USAGE: u8 = 2;
 
 const READ_FAILED: u8 = 3;

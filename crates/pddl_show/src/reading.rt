@@ -48,7 +48,8 @@ fn stopped(stop: ReadStop, file: usize) -> Stop {
     }
 }
 
-/// What the texts under the names hold, line by line: a domain, or a problem of a domain, or a plan for both.
+/// What the texts under the names hold, line by line: a domain, or a problem of a domain, or a plan
+/// for both.
 pub fn read_texts<H: Shelf>(
     alloc: Global,
     names: &[String],

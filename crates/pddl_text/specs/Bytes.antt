@@ -1,8 +1,10 @@
 -- What the bytes of a text are to its words, and the bytes of a plan to its lines.
-use Rattle.std.specs.Prelude.{ℕ, ◌≢◌, Bool, List, ◌==◌, ◌&&◌, ◌||◌, not, nat_le, nat_lt, IsTrue, if◌then◌else◌}
+use Rattle.std.specs.Prelude.{ℕ, ◌≢◌, Bool, List, ◌==◌, ◌&&◌, ◌||◌, not, nat_le, nat_lt, IsTrue}
+use Rattle.std.specs.Prelude.{if◌then◌else◌}
 use Rattle.std.specs.List.{AllByRecursion}
 use Rattle.pddl_text.specs.declared.bytes.ByteKind.{ByteKind}
-use Rattle.pddl_text.specs.declared.bytes.ByteKind.TheVariants.{White, Semicolon, Opening, Closing, Letter, Stray}
+use Rattle.pddl_text.specs.declared.bytes.ByteKind.TheVariants.{White, Semicolon, Opening, Closing}
+use Rattle.pddl_text.specs.declared.bytes.ByteKind.TheVariants.{Letter, Stray}
 
 -- space, tab, carriage return and line feed
 abbrev pub is_white : ℕ → Bool

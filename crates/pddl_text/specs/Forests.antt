@@ -1,5 +1,6 @@
 -- Which bytes spell which forest, and where bytes that spell none break a rule first.
-use Rattle.std.specs.Prelude.{ℕ, ◌+◌, ◌≤◌, ◌≡◌, zero, suc, max, List, [], ◌∷◌, ◌++◌, map, nat_lt, Option, Some, None, if◌then◌else◌}
+use Rattle.std.specs.Prelude.{ℕ, ◌+◌, ◌≤◌, ◌≡◌, zero, suc, max, List, [], ◌∷◌, ◌++◌, map, nat_lt}
+use Rattle.std.specs.Prelude.{Option, Some, None, if◌then◌else◌}
 use Rattle.pddl_text.specs.declared.place.Place.{Place}
 use Rattle.pddl_text.specs.declared.tree.Forest.{Forest}
 use Rattle.pddl_text.specs.declared.tree.Tree.{Tree}

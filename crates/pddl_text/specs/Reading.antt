@@ -1,9 +1,11 @@
 -- How a text is read, byte by byte: what is left to be read, as functions on lists.
-use Rattle.std.specs.Prelude.{ℕ, List, [], ◌∷◌, ◌++◌, length, reverse, ◌==◌, nat_lt, Result, Ok, Err, if◌then◌else◌}
+use Rattle.std.specs.Prelude.{ℕ, List, [], ◌∷◌, ◌++◌, length, reverse, ◌==◌, nat_lt, Result, Ok}
+use Rattle.std.specs.Prelude.{Err, if◌then◌else◌}
 use Rattle.std.specs.Char.{to_ascii_lowercase}
 use Rattle.std.specs.String.{string_bytes}
 use Rattle.pddl_text.specs.declared.bytes.ByteKind.{ByteKind}
-use Rattle.pddl_text.specs.declared.bytes.ByteKind.TheVariants.{White, Semicolon, Opening, Closing, Letter, Stray as StrayByte}
+use Rattle.pddl_text.specs.declared.bytes.ByteKind.TheVariants.{White, Semicolon, Opening, Closing}
+use Rattle.pddl_text.specs.declared.bytes.ByteKind.TheVariants.{Letter, Stray as StrayByte}
 use Rattle.pddl_text.specs.declared.fault.TextFault.{TextFault}
 use Rattle.pddl_text.specs.declared.fault.TextRule.TheVariants as rule
 use Rattle.pddl_text.specs.declared.grove.Frame.{Frame}
@@ -81,7 +83,8 @@ within_of (mode.InWord from) letters = InWord letters from
 -- what a reader has still to read
 abbrev pub left : Reader → Place → Spot → List ℕ → Result (List Tree) TextFault
 left reader end s bytes =
-    reads reader.grove end (tokens_from (within_of reader.mode (string_bytes reader.letters)) s bytes)
+    reads reader.grove end (tokens_from (within_of reader.mode (string_bytes reader.letters)) s
+    bytes)
 
 -- the forest of these trees, where the text ends at this place
 abbrev pub with_past : Place → Result (List Tree) TextFault → Result Forest TextFault

@@ -29,7 +29,8 @@ SpansAscend from to (Open at ∷ tokens) = SpansAscend (from + 1) to tokens
 SpansAscend from to (Close at ∷ tokens) = SpansAscend (from + 1) to tokens
 SpansAscend from to (Stray at ∷ tokens) = SpansAscend (from + 1) to tokens
 
--- each word is the lower case of a slice of the bytes, from this position on and behind the word before
+-- each word is the lower case of a slice of the bytes, from this position on and behind the word
+-- before
 abbrev pub WordsAscend : List ℕ → ℕ → List (Text × Place) → Type 0
 WordsAscend bytes from [] = from ≤ length bytes
 WordsAscend bytes from ((text, at) ∷ words) =

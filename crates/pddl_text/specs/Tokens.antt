@@ -52,7 +52,8 @@ pub data HasTokens : Spot → List ℕ → List Token → Type 0 where
       → AreWordBytes (b ∷ letters) → EndsWord rest
       → HasTokens (after_all s (b ∷ letters)) rest tokens
       → HasTokens s (b ∷ letters ++ rest)
-      (Word (str_to_ascii_lowercase (b ∷ letters)) s.place s.position (s.position + length (b ∷ letters))
+      (Word (str_to_ascii_lowercase (b ∷ letters)) s.place s.position
+      (s.position + length (b ∷ letters))
       ∷ tokens)
   -- any other byte is stray
   stray : {s : Spot} {b : ℕ} {rest : List ℕ} {tokens : List Token}

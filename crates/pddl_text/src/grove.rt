@@ -17,7 +17,8 @@ pub struct Frame {
     pub before: List<Tree>,
 }
 
-/// The lists that are open, the innermost last, and the trees so far of the innermost or, where none
+/// The lists that are open, the innermost last, and the trees so far of the innermost or, where
+/// none
 /// is open, of the text.
 #[derive(Drop)]
 pub struct Grove {

@@ -1,8 +1,10 @@
-ghost use Rattle.std.specs.Prelude.{◌≡◌, ◌+◌, ◌^◌, ◌<◌, ◌≤◌, ◌∷◌, ◌++◌, [], length, All, IfOk, OnOk, Some, None, Err, ℕ, List as ListOf};
+ghost use Rattle.std.specs.Prelude.{◌≡◌, ◌+◌, ◌^◌, ◌<◌, ◌≤◌, ◌∷◌, ◌++◌, [], length, All, IfOk};
+ghost use Rattle.std.specs.Prelude.{OnOk, Some, None, Err, ℕ, List as ListOf};
 ghost use Rattle.std.specs.String.{string_bytes};
 ghost use Rattle.pddl_text.specs.Answers.{IfFault, AnswersOk, AnswersFault, Gives};
 ghost use Rattle.pddl_text.specs.Faults.{fault_at};
-ghost use Rattle.pddl_text.specs.PlanReading.{row_step, inside_step, row_end, line_of, rows_from, lines_of, state_of};
+ghost use Rattle.pddl_text.specs.PlanReading.{row_step, inside_step, row_end, line_of, rows_from};
+ghost use Rattle.pddl_text.specs.PlanReading.{lines_of, state_of};
 ghost use Rattle.pddl_text.specs.Plans.{kept, SpellsPlan, LeavesPlan};
 ghost use Rattle.pddl_text.specs.Spans.{WordsAscend, words_of};
 ghost use Rattle.pddl_text.specs.Stops.{IfStopped, Finds};

@@ -1,4 +1,5 @@
--- What the form of a text says of each of its words alone: names are names, and numbers are numbers.
+-- What the form of a text says of each of its words alone: names are names, and numbers are
+-- numbers.
 use Rattle.std.specs.Prelude.{◌≡◌, Bool, true, false, IsTrue, IsSome, List, All}
 use Rattle.model_kit.specs.Names.{is_name}
 use Rattle.pddl_form.specs.Numbers.{number}

@@ -1,6 +1,8 @@
--- The vocabulary that the words of a text say. Numbers are places in the lists, whose entries stand in the order in which
+-- The vocabulary that the words of a text say. Numbers are places in the lists, whose entries stand
+-- in the order in which
 -- the text first names them.
-use Rattle.std.specs.Prelude.{ℕ, ◌≡◌, not, Bool, true, false, List, [], ◌∷◌, ◌++◌, map, filter, codes, take_while, Option, None, Some, unwrap_or, if◌then◌else◌}
+use Rattle.std.specs.Prelude.{ℕ, ◌≡◌, not, Bool, true, false, List, [], ◌∷◌, ◌++◌, map, filter}
+use Rattle.std.specs.Prelude.{codes, take_while, Option, None, Some, unwrap_or, if◌then◌else◌}
 use Rattle.std.specs.List.{list_any, position_from}
 use Rattle.std.specs.Option.{option_map}
 use Rattle.std.specs.Str.{bytes_eq}
@@ -22,7 +24,9 @@ use Rattle.pddl_names.specs.declared.role.Role.TheVariants as role
 use Rattle.pddl_names.specs.declared.role.Says.{Says}
 use Rattle.pddl_names.specs.declared.role.Says.TheVariants as says
 use Rattle.pddl_names.specs.declared.role.Word.{Word}
-use Rattle.pddl_names.specs.Listings.{Typed, Signed, Given, types_listed, objects_listed, predicates_in, functions_in, parent_of, terms_behind, values_in, action_params, types_of}
+use Rattle.pddl_names.specs.Listings.{Typed, Signed, Given, types_listed, objects_listed}
+use Rattle.pddl_names.specs.Listings.{predicates_in, functions_in, parent_of, terms_behind}
+use Rattle.pddl_names.specs.Listings.{values_in, action_params, types_of}
 use Rattle.pddl_names.specs.Naming.{is_action, is_variable, same_call}
 use Rattle.pddl_names.specs.Numbers.{entry_name, word_name}
 
@@ -55,14 +59,17 @@ type_names words = firsts bytes_eq (codes "object" ∷ type_words words)
 
 -- the types with their parents
 abbrev pub types_said : List Word → List (Text × ℕ)
-types_said words = map (λ name. (name, place_in (type_names words) (parent_of (types_listed words) name))) (type_names words)
+types_said words =
+    map (λ name. (name, place_in (type_names words) (parent_of (types_listed words) name)))
+    (type_names words)
 
 abbrev pub same_entry : Typed → Typed → Bool
 same_entry e f = bytes_eq e.0 f.0
 
 -- the listed objects with their types, by the names of all types
 abbrev pub objects_said : List Text → List Word → List (Text × ℕ)
-objects_said types words = map (λ (e : Typed). (e.0, place_in types e.1)) (firsts same_entry (objects_listed words))
+objects_said types words =
+    map (λ (e : Typed). (e.0, place_in types e.1)) (firsts same_entry (objects_listed words))
 
 -- ---- predicates, functions and actions
 
@@ -103,14 +110,17 @@ pub record SaysWords (said : List Word) (words : Vocabulary) : Type 0 where
   pub types : words.types ≡ types_said said
   pub objects : words.objects ≡ objects_said (type_names said) said
   pub predicates : words.predicates ≡ map (signature_said (type_names said)) (predicates_in said)
-  pub functions : words.functions ≡ map (signature_said (type_names said)) (filter (λ s. not (is_total s)) (functions_in said))
+  pub functions : words.functions ≡ map (signature_said (type_names said)) (filter
+      (λ s. not (is_total s)) (functions_in said))
   pub actions : words.actions ≡ map (action_said (type_names said)) (actions_in said)
 
--- behind the vocabulary of a domain, the words of a problem say the vocabulary of both: its objects follow the domain's
+-- behind the vocabulary of a domain, the words of a problem say the vocabulary of both: its objects
+-- follow the domain's
 pub record SaysMore (domain : Vocabulary) (said : List Word) (words : Vocabulary) : Type 0 where
   pub types : words.types ≡ domain.types
   pub objects : words.objects ≡ domain.objects
-      ++ filter (λ e. not (list_any (λ f. bytes_eq (entry_name f) (entry_name e)) domain.objects)) (objects_said (names_of domain.types) said)
+      ++ filter (λ e. not (list_any (λ f. bytes_eq (entry_name f) (entry_name e)) domain.objects))
+      (objects_said (names_of domain.types) said)
   pub predicates : words.predicates ≡ domain.predicates
   pub functions : words.functions ≡ domain.functions
   pub actions : words.actions ≡ domain.actions

@@ -7,7 +7,8 @@ use Rattle.pddl_names.specs.declared.kind.Kind.{Kind}
 use Rattle.pddl_names.specs.declared.kind.Kind.TheVariants as kind
 use Rattle.pddl_names.specs.declared.role.Word.{Word}
 use Rattle.pddl_names.specs.Kinds.{is_kind}
-use Rattle.pddl_names.specs.Listings.{Typed, types_listed, objects_listed, own_params, action_params, parent_of, types_of}
+use Rattle.pddl_names.specs.Listings.{Typed, types_listed, objects_listed, own_params}
+use Rattle.pddl_names.specs.Listings.{action_params, parent_of, types_of}
 
 -- the number of the parent of a type
 abbrev pub parent_said : (Text → ℕ) → List Word → Text → ℕ
@@ -41,10 +42,12 @@ is_entry_word k w = is_kind k w.role && not (is_left_out k w.text)
 
 -- the entry of a name, by the words behind it
 abbrev pub entry_said : (Text → ℕ) → Kind → Word → List Word → Signature
-entry_said number k w behind = record { name = w.text; params = map number (params_behind k behind) }
+entry_said number k w behind =
+    record { name = w.text; params = map number (params_behind k behind) }
 
 -- the entries of a kind in written order
 abbrev pub entries_said : (Text → ℕ) → Kind → List Word → List Signature
 entries_said number k [] = []
 entries_said number k (w ∷ rest) =
-    if is_entry_word k w then entry_said number k w rest ∷ entries_said number k rest else entries_said number k rest
+    if is_entry_word k w then entry_said number k w rest ∷ entries_said number k rest
+    else entries_said number k rest

@@ -7,7 +7,8 @@ ghost use Rattle.pddl_text.specs.declared.tree.Forest.{Forest};
 ghost use Rattle.pddl_vocabulary.specs.Formed.{AreFormed};
 ghost use Rattle.pddl_names.specs.Roles.{words_of};
 
-/// In a text of the grammar each word is what its place asks for: where a name is due it is a name in
+/// In a text of the grammar each word is what its place asks for: where a name is due it is a name
+/// in
 /// lower case, and where a number is due it is a number.
 pub fn law_formed()
     ensures formed { (start : Part) (bytes : List ℕ) (forest : Forest) (met : List Met) →

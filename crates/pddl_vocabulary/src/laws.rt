@@ -6,7 +6,8 @@ ghost use Rattle.pddl_names.specs.declared.role.Word.{Word};
 ghost use Rattle.pddl_vocabulary.specs.Formed.{AreFormed};
 ghost use Rattle.pddl_vocabulary.specs.Values.{SaysWords, SaysMore};
 
-/// Words that are formed and break no rule of names say a vocabulary, and behind the vocabulary of a
+/// Words that are formed and break no rule of names say a vocabulary, and behind the vocabulary of
+/// a
 /// domain words that are formed say one of both.
 pub fn law_vocabularies()
     ensures some { (said : List Word) → AreFormed said → IsNamed nothing said →

@@ -12,8 +12,10 @@ use mre_base::{Copied, List, NoMemory};
 use pddl_names::{Kind, NameTable, Word, type_places};
 use std::alloc::Global;
 
-/// The vocabulary that the words of a domain say: types, objects, predicates, functions and actions in
-/// the order in which the text first names them, `object` before the other types, and `total-cost` not
+/// The vocabulary that the words of a domain say: types, objects, predicates, functions and actions
+/// in
+/// the order in which the text first names them, `object` before the other types, and `total-cost`
+/// not
 /// among the functions.
 pub fn vocabulary_of(alloc: Global, said: &List<Word>) -> Result<Vocabulary, NoMemory>
     requires few { length said.now < 2 ^ 29 }
@@ -52,7 +54,8 @@ pub fn vocabulary_with(
     requires objects { length domain.now.objects < 2 ^ 30 }
     requires formed { AreFormed said.now }
     ensures ok { IfOk result (SaysMore domain.now said.now) }
-    ensures few_objects { IfOk result (λ words. length words.objects ≤ length domain.now.objects + length said.now) }
+    ensures few_objects { IfOk result (λ words. length words.objects
+        ≤ length domain.now.objects + length said.now) }
 {
     let types = TypeNumbers {
         numbers: NameTable::of(alloc, &domain.types)?,

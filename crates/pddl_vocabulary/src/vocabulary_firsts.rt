@@ -42,7 +42,8 @@ pub fn with_further(
     further: &List<(Text, u32)>,
 ) -> Result<List<(Text, u32)>, NoMemory>
     requires few { length objects.now < 2 ^ 30 }
-    ensures ok { IfOk result (λ made. made ≡ objects.now ++ filter (is_no_entry objects.now) further.now) }
+    ensures ok { IfOk result (λ made. made ≡ objects.now
+        ++ filter (is_no_entry objects.now) further.now) }
 {
     let table = NameTable::of(alloc, objects)?;
     let mut made = objects.copied(alloc)?;

@@ -1,7 +1,8 @@
 ghost use Rattle.std.specs.Prelude.{◌≡◌, ◌≤◌, ◌<◌, ◌+◌, drop, length, map, IfOk};
 ghost use Rattle.pddl_names.specs.Listings.{own_params, action_params, types_of};
 ghost use Rattle.pddl_vocabulary.specs.VocabularyTypes.{type_number, AreTypesOf};
-ghost use Rattle.pddl_vocabulary.specs.VocabularyLists.{objects_numbered, params_behind, is_left_out, is_entry_word, entries_said};
+ghost use Rattle.pddl_vocabulary.specs.VocabularyLists.{objects_numbered, params_behind};
+ghost use Rattle.pddl_vocabulary.specs.VocabularyLists.{is_left_out, is_entry_word, entries_said};
 
 use crate::vocabulary_types::TypeNumbers;
 use model_kit::Signature;
@@ -36,7 +37,8 @@ fn own_types(
     types: &TypeNumbers,
 ) -> Result<List<u32>, NoMemory>
     requires types { AreTypesOf words.now types.now }
-    ensures ok { IfOk result (λ made. made ≡ map (type_number types.now) (types_of (own_params (drop start words.now)))) }
+    ensures ok { IfOk result (λ made. made
+        ≡ map (type_number types.now) (types_of (own_params (drop start words.now)))) }
 {
     let mut made = List::empty(alloc);
     for place in start..words.len() {
@@ -57,7 +59,8 @@ fn action_types(
     types: &TypeNumbers,
 ) -> Result<List<u32>, NoMemory>
     requires types { AreTypesOf words.now types.now }
-    ensures ok { IfOk result (λ made. made ≡ map (type_number types.now) (types_of (action_params (drop start words.now)))) }
+    ensures ok { IfOk result (λ made. made
+        ≡ map (type_number types.now) (types_of (action_params (drop start words.now)))) }
 {
     let mut made = List::empty(alloc);
     for place in start..words.len() {
@@ -81,7 +84,8 @@ fn params_behind(
     types: &TypeNumbers,
 ) -> Result<List<u32>, NoMemory>
     requires types { AreTypesOf words.now types.now }
-    ensures ok { IfOk result (λ made. made ≡ map (type_number types.now) (params_behind kind (drop start words.now))) }
+    ensures ok { IfOk result (λ made. made
+        ≡ map (type_number types.now) (params_behind kind (drop start words.now))) }
 {
     match kind {
         Kind::Actions => action_types(alloc, words, start, types),

@@ -9,7 +9,8 @@ use mre_base::{List, NoMemory, Text};
 use pddl_names::{Kind, NameTable, Role, Word};
 use std::alloc::Global;
 
-/// The numbers of types by their names, and where the type stands that is behind each word of a group.
+/// The numbers of types by their names, and where the type stands that is behind each word of a
+/// group.
 pub struct TypeNumbers {
     pub numbers: NameTable,
     pub places: Vec<u32>,
@@ -83,7 +84,8 @@ pub fn types_of(
 ) -> Result<List<(Text, u32)>, NoMemory>
     requires few { length words.now < 2 ^ 30 }
     requires types { AreTypesOf words.now types.now }
-    ensures ok { IfOk result (λ made. made ≡ map (type_said (type_number types.now) words.now) names.now) }
+    ensures ok { IfOk result (λ made. made
+        ≡ map (type_said (type_number types.now) words.now) names.now) }
 {
     let listed = NameTable::of_kind(alloc, words, Kind::Types)?;
     let mut made = List::empty(alloc);

@@ -1,4 +1,5 @@
--- What the plain program answers: a cheapest valid list where the plan is none, and the first complete set with the plan's cost after it.
+-- What the plain program answers: a cheapest valid list where the plan is none, and the first
+-- complete set with the plan's cost after it.
 use Rattle.std.specs.Prelude.{◌≡◌, ◌<◌, List, All}
 use Rattle.model_kit.specs.declared.vocabulary.Vocabulary.{Vocabulary}
 use Rattle.model_kit.specs.declared.action.GroundAction.{GroundAction}
@@ -11,7 +12,8 @@ use Rattle.plain_program.specs.declared.answer.Foil.{Foil}
 use Rattle.plain_program.specs.declared.answer.FirstComplete.{FirstComplete}
 
 -- a cheapest valid list of ground actions, and it costs less than the plan
-pub record IsCheaper (words : Vocabulary) (model : Meaning) (plan : List GroundAction) (foil : Foil) : Type 0 where
+pub record IsCheaper (words : Vocabulary) (model : Meaning) (plan : List GroundAction)
+    (foil : Foil) : Type 0 where
   pub fits : All (IsGroundAction words) foil.plan.steps
   pub cheapest : IsCheapest words model foil.plan.steps
   pub costs : foil.cost ≡ cost model foil.plan.steps

@@ -1,4 +1,5 @@
--- How the first complete set is found: each set is kept in place of the best one so far where it is complete and before it.
+-- How the first complete set is found: each set is kept in place of the best one so far where it is
+-- complete and before it.
 use Rattle.std.specs.Prelude.{ℕ, ◌≡◌, ◌⊎◌, true, List}
 use Rattle.std.specs.Ordering.{nat_cmp}
 use Rattle.std.specs.FinSet as set
@@ -19,7 +20,9 @@ cost_after task told = cost (patched task.planner task.user task.places told) ta
 
 -- a fact of the task of a pair, its differences, which are determined by the pair, and a plan
 abbrev pub OfTask : Model → Model → List GroundAction → (Task → Type 0) → Type 0
-OfTask planner user plan Fact = (differences : List Difference) → AreDifferencesOf planner user differences → Fact (even_task planner user differences plan)
+OfTask planner user plan Fact =
+    (differences : List Difference) → AreDifferencesOf planner user differences
+    → Fact (even_task planner user differences plan)
 
 -- the set is complete, and the plan has this cost after it
 abbrev pub IsPriced : Task → set.FinSet nat_cmp → ℕ → Type 0
@@ -29,4 +32,5 @@ IsPriced task told price = IsComplete task told × (price ≡ cost_after task to
 abbrev pub Keeps : Task → FirstComplete → set.FinSet nat_cmp → FirstComplete → Type 0
 Keeps task best told kept =
     ((kept ≡ best) × ¬ (IsComplete task told × (is_before task.weights told best.told ≡ true)))
-    ⊎ ((kept.told ≡ told) × (is_before task.weights told best.told ≡ true) × IsPriced task told kept.cost)
+    ⊎ ((kept.told ≡ told) × (is_before task.weights told best.told ≡ true)
+    × IsPriced task told kept.cost)

@@ -1,5 +1,7 @@
--- Plain models in numbers: an atom is the number of its predicate, and an action is the number of its schema.
-use Rattle.std.specs.Prelude.{ℕ, ◌≡◌, ◌==◌, ◌↔◌, true, List, [], map, Option, None, Some, if◌then◌else◌}
+-- Plain models in numbers: an atom is the number of its predicate, and an action is the number of
+-- its schema.
+use Rattle.std.specs.Prelude.{ℕ, ◌≡◌, ◌==◌, ◌↔◌, true, List, [], map, Option, None, Some}
+use Rattle.std.specs.Prelude.{if◌then◌else◌}
 use Rattle.std.specs.List.{list_any}
 use Rattle.std.specs.FinSet as set
 use Rattle.model_kit.specs.declared.atom.GroundAtom.{GroundAtom}
@@ -35,9 +37,12 @@ numbers_of plan = map (λ action. action.schema) plan
 pub record IsNumbered (model : Meaning) (task : TaskMeaning) : Type 0 where
   pub initial : (atom : GroundAtom) → Has model (Init atom) ↔ IsNamed task.start atom
   pub goal : (atom : GroundAtom) → Has model (Goal atom) ↔ IsNamed task.goal atom
-  pub needs : (n : ℕ) (atom : GroundAtom) → Needs model (action_of n) atom ↔ IsNamed (action_at task n).pre atom
-  pub adds : (n : ℕ) (atom : GroundAtom) → Adds model (action_of n) atom ↔ IsNamed (action_at task n).add atom
-  pub deletes : (n : ℕ) (atom : GroundAtom) → Deletes model (action_of n) atom ↔ IsNamed (action_at task n).del atom
+  pub needs : (n : ℕ) (atom : GroundAtom)
+      → Needs model (action_of n) atom ↔ IsNamed (action_at task n).pre atom
+  pub adds : (n : ℕ) (atom : GroundAtom)
+      → Adds model (action_of n) atom ↔ IsNamed (action_at task n).add atom
+  pub deletes : (n : ℕ) (atom : GroundAtom)
+      → Deletes model (action_of n) atom ↔ IsNamed (action_at task n).del atom
   pub costs : (n : ℕ) → cost_of model (action_of n) ≡ cost_at task n
 
 -- what a task means
@@ -58,7 +63,8 @@ number_of (Call function args) = None
 
 -- what an action costs; an action that the model doesn't know has no cost
 abbrev pub known_cost : Model → ℕ → Schema → Option ℕ
-known_cost model action schema = if list_any (λ unknown. unknown == action) model.unknown then None else number_of schema.cost
+known_cost model action schema =
+    if list_any (λ unknown. unknown == action) model.unknown then None else number_of schema.cost
 
 -- an action in numbers
 abbrev pub numbered : Model → ℕ → Schema → TaskAction

@@ -1,4 +1,5 @@
--- All sets of the numbers from 1 to a bound, made by doubling: each set so far without the next number, and with it.
+-- All sets of the numbers from 1 to a bound, made by doubling: each set so far without the next
+-- number, and with it.
 use Rattle.std.specs.Prelude.{ℕ, zero, suc, List, [], ◌∷◌, ◌++◌, map}
 use Rattle.std.specs.Ordering.{nat_cmp}
 use Rattle.std.specs.FinSet as set

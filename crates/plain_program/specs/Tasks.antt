@@ -9,4 +9,6 @@ use Rattle.feature_diff.specs.Differing.{places_of}
 
 -- the two models, their differences, each of weight 1, and the plan
 abbrev pub even_task : Model → Model → List Difference → List GroundAction → Task
-even_task planner user differences plan = task_of planner.words planner user (places_of differences) (replicate (length differences) 1) plan
+even_task planner user differences plan =
+    task_of planner.words planner user (places_of differences) (replicate (length differences) 1)
+    plan

@@ -24,14 +24,16 @@ pub struct Foil {
     pub cost: u64,
 }
 
-/// A set of differences after which a plan is cheapest in the user's model, and what the plan costs there.
+/// A set of differences after which a plan is cheapest in the user's model, and what the plan costs
+/// there.
 #[derive(Debug, Drop)]
 pub struct FirstComplete {
     pub told: Places,
     pub cost: u64,
 }
 
-/// A cheapest valid list where it costs less than the plan, which is valid in the model, or none where the plan is cheapest there. The
+/// A cheapest valid list where it costs less than the plan, which is valid in the model, or none
+/// where the plan is cheapest there. The
 /// model has no parameters, types or functions.
 pub fn cheaper_list(alloc: Global, model: &Model, plan: &Plan) -> Result<Option<Foil>, NoMemory>
     requires plain { IsTrue (is_plain model.now.words) }
@@ -40,8 +42,10 @@ pub fn cheaper_list(alloc: Global, model: &Model, plan: &Plan) -> Result<Option<
     requires fits { All (IsGroundAction model.now.words) plan.now.steps }
     requires short { length plan.now.steps ≤ 10000 }
     requires valid { IsValid (meaning model.now) plan.now.steps }
-    ensures cheapest { IfOk result (λ foil. IfNone foil (IsCheapest model.now.words (meaning model.now) plan.now.steps)) }
-    ensures cheaper { IfOk result (λ foil. IfSome foil (IsCheaper model.now.words (meaning model.now) plan.now.steps)) }
+    ensures cheapest { IfOk result (λ foil. IfNone foil
+        (IsCheapest model.now.words (meaning model.now) plan.now.steps)) }
+    ensures cheaper { IfOk result (λ foil. IfSome foil
+        (IsCheaper model.now.words (meaning model.now) plan.now.steps)) }
 {
     let task = number_model(alloc, model)?;
     let list = number_plan(alloc, plan)?;
@@ -53,7 +57,8 @@ pub fn cheaper_list(alloc: Global, model: &Model, plan: &Plan) -> Result<Option<
     Ok(Some(Foil { plan, cost }))
 }
 
-/// The first complete set of at most 16 differences, each of weight 1: every set is tried. The plan is cheapest in the planner's
+/// The first complete set of at most 16 differences, each of weight 1: every set is tried. The plan
+/// is cheapest in the planner's
 /// model, so that there is one. The models have no parameters, types or functions.
 pub fn first_complete(
     alloc: Global,
@@ -68,7 +73,8 @@ pub fn first_complete(
     requires few { length differences.now ≤ 16 }
     requires fits { All (IsGroundAction pair.now.planner.words) plan.now.steps }
     requires short { length plan.now.steps ≤ 10000 }
-    requires cheapest { IsCheapest pair.now.planner.words (meaning pair.now.planner) plan.now.steps }
+    requires cheapest { IsCheapest pair.now.planner.words (meaning pair.now.planner)
+        plan.now.steps }
     ensures ok { IfOk result (IsFirstComplete
         (even_task pair.now.planner pair.now.user differences.now plan.now.steps)) }
 {

@@ -12,7 +12,8 @@ use feature_diff::Pair;
 use mre_base::{List, NoMemory, Places};
 use std::alloc::Global;
 
-// What a plan costs in the user's model after a set of differences where it is cheapest there, and none where it isn't.
+// What a plan costs in the user's model after a set of differences where it is cheapest there, and
+// none where it isn't.
 fn cost_if_complete(
     alloc: Global,
     pair: &Pair,
@@ -26,9 +27,11 @@ fn cost_if_complete(
     requires listed { All (λ action. action < length pair.now.planner.words.actions) list.now }
     requires short { length list.now ≤ 10000 }
     ensures complete { IfOk result (λ found. IfSome found (λ price.
-        OfTask pair.now.planner pair.now.user (actions_of list.now) (λ task. IsPriced task told.now price))) }
+        OfTask pair.now.planner pair.now.user (actions_of list.now)
+        (λ task. IsPriced task told.now price))) }
     ensures other { IfOk result (λ found. IfNone found (
-        OfTask pair.now.planner pair.now.user (actions_of list.now) (λ task. ¬ IsComplete task told.now))) }
+        OfTask pair.now.planner pair.now.user (actions_of list.now)
+        (λ task. ¬ IsComplete task told.now))) }
 {
     let model = pair.patched(alloc, told)?;
     cost_where_cheapest(alloc, &model, list)
@@ -49,7 +52,8 @@ pub(crate) fn keep_first(
     requires best_within { IsToldOf pair.now.planner pair.now.user best.told }
     requires listed { All (λ action. action < length pair.now.planner.words.actions) list.now }
     requires short { length list.now ≤ 10000 }
-    ensures { IfOk result (λ kept. OfTask pair.now.planner pair.now.user (actions_of list.now) (λ task. Keeps task best told.now kept)) }
+    ensures { IfOk result (λ kept. OfTask pair.now.planner pair.now.user (actions_of list.now)
+        (λ task. Keeps task best told.now kept)) }
 {
     if !is_before(&Weights::ones(), told, &best.told) {
         return Ok(best);

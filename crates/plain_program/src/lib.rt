@@ -1,4 +1,5 @@
-//! The plain program: the definitions computed on small inputs, set by set, each judged on a task of numbers by a plain search.
+//! The plain program: the definitions computed on small inputs, set by set, each judged on a task
+//! of numbers by a plain search.
 #![tactic(auto)]
 
 mod answer;

@@ -1,10 +1,12 @@
-ghost use Rattle.std.specs.Prelude.{ℕ, ◌≡◌, ◌+◌, ◌^◌, ◌<◌, length, map, All, IsTrue, IfOk, Some, slice_get, unwrap_or};
+ghost use Rattle.std.specs.Prelude.{ℕ, ◌≡◌, ◌+◌, ◌^◌, ◌<◌, length, map, All, IsTrue, IfOk, Some};
+ghost use Rattle.std.specs.Prelude.{slice_get, unwrap_or};
 ghost use Rattle.std.specs.Option.{option_map};
 ghost use Rattle.model_kit.specs.Places.{meaning};
 ghost use Rattle.model_kit.specs.Plain.{is_plain};
 ghost use Rattle.task_kit.specs.Tasks.{IsAction, set_of};
 ghost use Rattle.task_kit.specs.Kept.{action_meaning};
-ghost use Rattle.plain_program.specs.Numbered.{IsNumbered, actions_of, facts_of, known_cost, meant, numbered, numbers_of, predicates_of};
+ghost use Rattle.plain_program.specs.Numbered.{IsNumbered, actions_of, facts_of, known_cost, meant};
+ghost use Rattle.plain_program.specs.Numbered.{numbered, numbers_of, predicates_of};
 
 use model_kit::{CostExpr, GroundAction, GroundAtom, Model, Plan, Schema, SchemaAtom};
 use mre_base::{Bits, List, NoMemory};
@@ -35,7 +37,8 @@ pub(crate) fn number_model(alloc: Global, model: &Model) -> Result<Task, NoMemor
 fn fact_set(alloc: Global, atoms: u32, facts: &List<GroundAtom>) -> Result<Bits, NoMemory>
     requires few { atoms + 1 < 2 ^ 32 }
     requires listed { All (λ atom. atom.predicate < atoms) facts.now }
-    ensures { IfOk result (λ bits. bits ≡ record { width = atoms + 1; members = set_of (facts_of facts.now) }) }
+    ensures { IfOk result (λ bits. bits
+        ≡ record { width = atoms + 1; members = set_of (facts_of facts.now) }) }
 {
     let mut bits = Bits::empty(alloc, atoms + 1)?;
     for place in 0..facts.len() {
@@ -51,7 +54,8 @@ fn number_actions(alloc: Global, model: &Model) -> Result<List<TaskAction>, NoMe
     ensures count { IfOk result (λ actions. length actions ≡ length model.now.schemas) }
     ensures each { IfOk result (λ actions. (n : ℕ) → n < length model.now.schemas →
         slice_get actions n ≡ option_map (numbered model.now n) (slice_get model.now.schemas n)) }
-    ensures fit { IfOk result (All (λ action. IsAction (length model.now.words.predicates) (action_meaning action))) }
+    ensures fit { IfOk result (All (λ action. IsAction (length model.now.words.predicates)
+        (action_meaning action))) }
 {
     let mut actions = List::empty(alloc);
     for place in 0..model.schemas.len() {
@@ -65,8 +69,10 @@ fn number_action(alloc: Global, model: &Model, place: usize) -> Result<TaskActio
     requires listed { place < length model.now.schemas }
     requires predicates { length model.now.words.predicates < 2 ^ 30 }
     requires actions { length model.now.words.actions < 2 ^ 30 }
-    ensures is { IfOk result (λ action. Some action ≡ option_map (numbered model.now place) (slice_get model.now.schemas place)) }
-    ensures fits { IfOk result (λ action. IsAction (length model.now.words.predicates) (action_meaning action)) }
+    ensures is { IfOk result (λ action. Some action
+        ≡ option_map (numbered model.now place) (slice_get model.now.schemas place)) }
+    ensures fits { IfOk result (λ action. IsAction (length model.now.words.predicates)
+        (action_meaning action)) }
 {
     let schema = model.schemas.item(place);
     Ok(TaskAction {

@@ -1,5 +1,7 @@
--- Which differences a plan uses: those at the places of the actions that its steps are instances of. A place is what two models can differ at.
-use Rattle.std.specs.Prelude.{ℕ, zero, suc, ◌≡◌, ◌≤◌, ◌-◌, ◌==◌, ◌↔◌, Bool, false, IsTrue, List, length, filter, Option, Some, None, IsSomeAnd, Any, slice_get}
+-- Which differences a plan uses: those at the places of the actions that its steps are instances
+-- of. A place is what two models can differ at.
+use Rattle.std.specs.Prelude.{ℕ, zero, suc, ◌≡◌, ◌≤◌, ◌-◌, ◌==◌, ◌↔◌, Bool, false, IsTrue, List}
+use Rattle.std.specs.Prelude.{length, filter, Option, Some, None, IsSomeAnd, Any, slice_get}
 use Rattle.std.specs.List.{list_any, range_with_len}
 use Rattle.std.specs.Option.{option_map_or}
 use Rattle.std.specs.Ordering.{nat_cmp}
@@ -7,7 +9,8 @@ use Rattle.std.specs.FinSet as set
 use Rattle.model_kit.specs.declared.action.GroundAction.{GroundAction}
 use Rattle.model_kit.specs.Places.{Place, Init, Goal, Knows, Pre, Add, Del, Cost, Value}
 
--- the action that a place is of: its knowledge, preconditions, adds, deletes and cost; a fact and a value are of none
+-- the action that a place is of: its knowledge, preconditions, adds, deletes and cost; a fact and a
+-- value are of none
 abbrev pub action_of : Place → Option ℕ
 action_of (Init atom) = None
 action_of (Goal atom) = None
@@ -31,11 +34,13 @@ pub record IsUsedAt (plan : List GroundAction) (places : List Place) (number : �
 
 -- the set has the numbers of the used places, and no other number
 abbrev pub AreUsed : List GroundAction → List Place → set.FinSet nat_cmp → Type 0
-AreUsed plan places chosen = (number : ℕ) → IsTrue (set.contains chosen number) ↔ IsUsedAt plan places number
+AreUsed plan places chosen =
+    (number : ℕ) → IsTrue (set.contains chosen number) ↔ IsUsedAt plan places number
 
 -- that a place is used, as a test
 abbrev pub is_used : List GroundAction → Place → Bool
-is_used plan place = option_map_or (λ action. list_any (λ step. step.schema == action) plan) (action_of place) false
+is_used plan place =
+    option_map_or (λ action. list_any (λ step. step.schema == action) plan) (action_of place) false
 
 -- that the place with this number is used, as a test
 abbrev pub is_used_at : List GroundAction → List Place → ℕ → Bool

@@ -10,7 +10,8 @@ use feature_diff::Difference;
 use model_kit::Plan;
 use mre_base::{List, Places};
 
-/// The numbers of the differences on the knowledge, preconditions, adds, deletes or cost of a schema that the plan uses. They count
+/// The numbers of the differences on the knowledge, preconditions, adds, deletes or cost of a
+/// schema that the plan uses. They count
 /// from 1.
 pub fn plan_uses(plan: &Plan, differences: &List<Difference>) -> Places
     requires few { length differences.now ≤ 256 }

@@ -19,7 +19,8 @@ enum Kind {
     ModelLines,
 }
 
-/// What the lines up to now have said: how texts are read, and the domain and the problem that are given.
+/// What the lines up to now have said: how texts are read, and the domain and the problem that are
+/// given.
 #[derive(Drop)]
 pub struct Cases {
     kind: Kind,

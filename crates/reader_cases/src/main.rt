@@ -1,6 +1,7 @@
 //! Reads the texts of standard input, and prints behind each what is read of it.
 //!
-//! A line is a text, in which a `|` stands for the end of a line. Before the texts a line `= KIND` says how they are read, and where that
+//! A line is a text, in which a `|` stands for the end of a line. Before the texts a line `= KIND`
+//! says how they are read, and where that
 //! needs a domain or a problem, lines `domain TEXT` and `problem TEXT` give it.
 #![tactic(auto)]
 

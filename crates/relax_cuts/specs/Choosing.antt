@@ -6,7 +6,8 @@ use Rattle.relax_cuts.specs.declared.choosing.Choice.{Choice}
 use Rattle.relax_cuts.specs.Leaving.{IsCutSet, IsWeight}
 
 -- the set is that of a cut of the state, and something is left of each action that it counts
-pub record IsChoice (task : TaskMeaning) (left : List ℕ) (state : Numbers) (choice : Choice) : Type 0 where
+pub record IsChoice (task : TaskMeaning) (left : List ℕ) (state : Numbers)
+    (choice : Choice) : Type 0 where
   pub width : choice.among.width ≡ task.atoms + 1
   pub cut_set : IsCutSet task state choice.among.members
   pub least : IsWeight task (length task.actions) left choice.among.members choice.least

@@ -1,20 +1,25 @@
 -- How a set of atoms grows by actions of whose cost little is left.
-use Rattle.std.specs.Prelude.{ℕ, ◌≡◌, ◌≤◌, ◌<◌, true, false, List, length, Option, Some, None, slice_index, ◌⊎◌}
+use Rattle.std.specs.Prelude.{ℕ, ◌≡◌, ◌≤◌, ◌<◌, true, false, List, length, Option, Some, None}
+use Rattle.std.specs.Prelude.{slice_index, ◌⊎◌}
 use Rattle.std.specs.FinSet as set
 use Rattle.task_kit.specs.Tasks.{Numbers, TaskMeaning, AllBelow, action_at, applies}
 
 -- the action has at most the limit left, and applies in the set
-pub record IsUsable (task : TaskMeaning) (left : List ℕ) (limit action : ℕ) (among : Numbers) : Type 0 where
+pub record IsUsable (task : TaskMeaning) (left : List ℕ) (limit action : ℕ)
+    (among : Numbers) : Type 0 where
   pub listed : action < length task.actions
   pub cheap : slice_index left action ≤ limit
   pub does : applies task action among ≡ true
 
 -- the set has what each usable action adds
 abbrev pub IsClosedUnder : TaskMeaning → List ℕ → ℕ → Numbers → Type 0
-IsClosedUnder task left limit among = (action : ℕ) → IsUsable task left limit action among → set.is_subset (action_at task action).add among ≡ true
+IsClosedUnder task left limit among =
+    (action : ℕ) → IsUsable task left limit action among
+    → set.is_subset (action_at task action).add among ≡ true
 
 -- a usable action adds the atom, which isn't in the set
-pub record IsLoose (task : TaskMeaning) (left : List ℕ) (limit : ℕ) (among : Numbers) (atom : ℕ) : Type 0 where
+pub record IsLoose (task : TaskMeaning) (left : List ℕ) (limit : ℕ) (among : Numbers)
+    (atom : ℕ) : Type 0 where
   pub action : ℕ
   pub usable : IsUsable task left limit action among
   pub added : set.contains (action_at task action).add atom ≡ true
@@ -26,12 +31,15 @@ IsLooseWhere task left limit among None = IsClosedUnder task left limit among
 IsLooseWhere task left limit among (Some atom) = IsLoose task left limit among atom
 
 -- the set grew, by atoms that each closed set has which has the old one
-pub record Spreads (task : TaskMeaning) (left : List ℕ) (limit : ℕ) (old new : Numbers) : Type 0 where
+pub record Spreads (task : TaskMeaning) (left : List ℕ) (limit : ℕ)
+    (old new : Numbers) : Type 0 where
   pub grows : set.is_subset old new ≡ true
-  pub within : (other : Numbers) → set.is_subset old other ≡ true → IsClosedUnder task left limit other → set.is_subset new other ≡ true
+  pub within : (other : Numbers) → set.is_subset old other ≡ true
+      → IsClosedUnder task left limit other → set.is_subset new other ≡ true
   pub below : AllBelow task.atoms old → AllBelow task.atoms new
 
 -- the set grew, by some of these atoms
 pub record AddsSome (adds old new : Numbers) : Type 0 where
   pub grows : set.is_subset old new ≡ true
-  pub only : (atom : ℕ) → set.contains new atom ≡ true → (set.contains old atom ≡ true) ⊎ (set.contains adds atom ≡ true)
+  pub only : (atom : ℕ) → set.contains new atom ≡ true
+      → (set.contains old atom ≡ true) ⊎ (set.contains adds atom ≡ true)

@@ -7,15 +7,19 @@ use Rattle.task_kit.specs.Tasks.{Numbers, TaskMeaning, action_at, cost_at}
 -- the set has what each action of cost 0 adds whose preconditions it has
 abbrev pub IsFreelyClosed : TaskMeaning → Numbers → Type 0
 IsFreelyClosed task among =
-    (action : ℕ) → cost_at task action ≡ Some 0 → set.is_subset (action_at task action).pre among ≡ true → set.is_subset (action_at task action).add among ≡ true
+    (action : ℕ) → cost_at task action ≡ Some 0
+    → set.is_subset (action_at task action).pre among ≡ true
+    → set.is_subset (action_at task action).add among ≡ true
 
 -- the free closure of a state: the least set that has the state's atoms and is freely closed
 pub record IsFreeClosure (task : TaskMeaning) (state : Numbers) (closure : Numbers) : Type 0 where
   pub has_state : set.is_subset state closure ≡ true
   pub closed : IsFreelyClosed task closure
-  pub least : (other : Numbers) → set.is_subset state other ≡ true → IsFreelyClosed task other → set.is_subset closure other ≡ true
+  pub least : (other : Numbers) → set.is_subset state other ≡ true → IsFreelyClosed task other
+      → set.is_subset closure other ≡ true
 
 -- the cuts weigh at least 1 where the free closure of the state lacks a goal atom
 abbrev pub AreForced : TaskMeaning → Numbers → List CutMeaning → Type 0
 AreForced task state cuts =
-    (closure : Numbers) → IsFreeClosure task state closure → set.is_subset task.goal closure ≡ false → 1 ≤ weights cuts
+    (closure : Numbers) → IsFreeClosure task state closure → set.is_subset task.goal closure ≡ false
+    → 1 ≤ weights cuts

@@ -1,5 +1,6 @@
 -- What cuts leave of the costs of the actions, and the cuts that were found so far.
-use Rattle.std.specs.Prelude.{ℕ, ◌+◌, ◌≡◌, ◌≤◌, ◌<◌, Bool, true, false, ◌&&◌, List, length, take, Option, Some, None, slice_get, slice_index, All}
+use Rattle.std.specs.Prelude.{ℕ, ◌+◌, ◌≡◌, ◌≤◌, ◌<◌, Bool, true, false, ◌&&◌, List, length, take}
+use Rattle.std.specs.Prelude.{Option, Some, None, slice_get, slice_index, All}
 use Rattle.std.specs.FinSet as set
 use Rattle.std.specs.List.Sorted.{IsStrictlyIncreasing}
 use Rattle.task_kit.specs.declared.cut.Cut.{Cut}
@@ -16,19 +17,23 @@ is_counted task action among = applies task action among && adds_outside task ac
 -- of each action's cost, this is left by the cuts
 pub record Leave (task : TaskMeaning) (cuts : List CutMeaning) (left : List ℕ) : Type 0 where
   pub sized : length left ≡ length task.actions
-  pub each : (action : ℕ) → action < length task.actions → slice_index left action + weight_of (counts task action) cuts ≡ price task action
+  pub each : (action : ℕ) → action < length task.actions
+      → slice_index left action + weight_of (counts task action) cuts ≡ price task action
 
 -- the least that is left of one of the first actions that a cut with this set counts
-pub record IsLeastLeft (task : TaskMeaning) (actions : ℕ) (left : List ℕ) (among : Numbers) (weight : ℕ) : Type 0 where
+pub record IsLeastLeft (task : TaskMeaning) (actions : ℕ) (left : List ℕ) (among : Numbers)
+    (weight : ℕ) : Type 0 where
   pub action : ℕ
   pub listed : action < actions
   pub counted : is_counted task action among ≡ true
   pub here : slice_index left action ≡ weight
-  pub within : (other : ℕ) → other < actions → is_counted task other among ≡ true → weight ≤ slice_index left other
+  pub within : (other : ℕ) → other < actions → is_counted task other among ≡ true
+      → weight ≤ slice_index left other
 
 -- none of the first actions is counted, or this is the least that is left of one
 abbrev pub IsWeight : TaskMeaning → ℕ → List ℕ → Numbers → Option ℕ → Type 0
-IsWeight task actions left among None = (action : ℕ) → action < actions → is_counted task action among ≡ false
+IsWeight task actions left among None =
+    (action : ℕ) → action < actions → is_counted task action among ≡ false
 IsWeight task actions left among (Some weight) = IsLeastLeft task actions left among weight
 
 -- the set has the state, lacks a goal atom, and has atoms alone
@@ -45,7 +50,9 @@ pub record IsFormed (atoms : ℕ) (cut : Cut) : Type 0 where
 
 -- each cut uses up the cost of an action
 abbrev pub EachUsesUp : TaskMeaning → List CutMeaning → Type 0
-EachUsesUp task cuts = (place : ℕ) (cut : CutMeaning) → slice_get cuts place ≡ Some cut → UsesUp task (take place cuts) cut
+EachUsesUp task cuts =
+    (place : ℕ) (cut : CutMeaning) → slice_get cuts place ≡ Some cut
+    → UsesUp task (take place cuts) cut
 
 -- the cuts of a state so far
 pub record AreCuts (task : TaskMeaning) (state : Numbers) (cuts : List Cut) : Type 0 where

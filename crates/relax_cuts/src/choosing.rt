@@ -37,7 +37,8 @@ fn by_closure<T: TaskView>(task: &T, left: &Vec<u64>, state: &Bits, closure: Bit
     }
 }
 
-// The state, and what is to stay outside the set of a cut: the zone of the farthest goal atom. Where that can't be made true at all,
+// The state, and what is to stay outside the set of a cut: the zone of the farthest goal atom.
+// Where that can't be made true at all,
 // nothing is to stay outside.
 fn known_of<T: TaskView>(
     alloc: Global,
@@ -73,7 +74,8 @@ fn proposed<T: TaskView>(
     requires sized { length left.now.items ≡ length (T.seen task.now).actions }
     requires state_width { state.now.width ≡ (T.seen task.now).atoms + 1 }
     requires width { closure.now.width ≡ (T.seen task.now).atoms + 1 }
-    ensures spreads { IfOk result (λ among. Spreads (T.seen task.now) left.now.items 18446744073709551615
+    ensures spreads { IfOk result (λ among. Spreads (T.seen task.now) left.now.items
+        18446744073709551615
         state.now.members among.members) }
     ensures width { IfOk result (λ among. among.width ≡ (T.seen task.now).atoms + 1) }
 {
@@ -112,7 +114,8 @@ fn is_above_0(least: Option<u64>) -> bool
     }
 }
 
-/// Chooses the set of the next cut of a state, given the closure of the state. The closure is taken only where the proposed set is none
+/// Chooses the set of the next cut of a state, given the closure of the state. The closure is taken
+/// only where the proposed set is none
 /// of a cut, or has a free way out.
 pub fn choose<T: TaskView>(
     alloc: Global,

@@ -1,7 +1,8 @@
 //! The closure of a state: what can be made true by actions of whose cost nothing is left.
 ghost use Rattle.std.specs.Prelude.{ℕ, ◌≡◌, ◌+◌, ◌≤◌, ◌<◌, true, length, slice_index, IfOk, OnOk};
 ghost use Rattle.std.specs.FinSet as set;
-ghost use Rattle.relax_cuts.specs.Closing.{IsUsable, IsClosedUnder, IsLooseWhere, Spreads, AddsSome};
+ghost use Rattle.relax_cuts.specs.Closing.{IsUsable, IsClosedUnder, IsLooseWhere, Spreads};
+ghost use Rattle.relax_cuts.specs.Closing.{AddsSome};
 ghost use Rattle.relax_cuts.specs.WaitingSize.{HasRoom};
 ghost use Rattle.task_kit.specs.Tasks.{AllBelow, IsTask, action_at, applies};
 
@@ -28,7 +29,8 @@ fn put_adds<T: TaskView>(
     requires listed { action < length (T.seen task.now).actions }
     requires among_width { reach.old.among.width ≡ (T.seen task.now).atoms + 1 }
     requires known_width { reach.old.known.width ≡ (T.seen task.now).atoms + 1 }
-    requires room { HasRoom ((T.seen task.now).atoms + 1) (length (T.seen task.now).actions) waiting.old }
+    requires room { HasRoom ((T.seen task.now).atoms + 1) (length (T.seen task.now).actions)
+        waiting.old }
     ensures adds { OnOk result (AddsSome (action_at (T.seen task.now) action).add
         reach.old.among.members reach.new.among.members) }
     ensures among_width { OnOk result (reach.new.among.width ≡ reach.old.among.width) }
@@ -47,7 +49,8 @@ fn put_adds<T: TaskView>(
     Ok(())
 }
 
-// Puts what an action adds into the set, where the action is usable, or lets it wait for its least missing precondition.
+// Puts what an action adds into the set, where the action is usable, or lets it wait for its least
+// missing precondition.
 fn look_at<T: TaskView>(
     task: &T,
     left: &Vec<u64>,
@@ -61,7 +64,8 @@ fn look_at<T: TaskView>(
     requires sized { length left.now.items ≡ length (T.seen task.now).actions }
     requires among_width { reach.old.among.width ≡ (T.seen task.now).atoms + 1 }
     requires known_width { reach.old.known.width ≡ (T.seen task.now).atoms + 1 }
-    requires room { HasRoom ((T.seen task.now).atoms + 1) (length (T.seen task.now).actions) waiting.old }
+    requires room { HasRoom ((T.seen task.now).atoms + 1) (length (T.seen task.now).actions)
+        waiting.old }
     ensures spreads { OnOk result (Spreads (T.seen task.now) left.now.items limit
         reach.old.among.members reach.new.among.members) }
     ensures among_width { OnOk result (reach.new.among.width ≡ reach.old.among.width) }
@@ -96,7 +100,8 @@ fn look_at_all<T: TaskView>(
     requires sized { length left.now.items ≡ length (T.seen task.now).actions }
     requires among_width { reach.old.among.width ≡ (T.seen task.now).atoms + 1 }
     requires known_width { reach.old.known.width ≡ (T.seen task.now).atoms + 1 }
-    requires room { HasRoom ((T.seen task.now).atoms + 1) (length (T.seen task.now).actions) waiting.old }
+    requires room { HasRoom ((T.seen task.now).atoms + 1) (length (T.seen task.now).actions)
+        waiting.old }
     ensures spreads { OnOk result (Spreads (T.seen task.now) left.now.items limit
         reach.old.among.members reach.new.among.members) }
     ensures among_width { OnOk result (reach.new.among.width ≡ reach.old.among.width) }
@@ -121,7 +126,8 @@ fn look_at_ready<T: TaskView>(
     requires sized { length left.now.items ≡ length (T.seen task.now).actions }
     requires among_width { reach.old.among.width ≡ (T.seen task.now).atoms + 1 }
     requires known_width { reach.old.known.width ≡ (T.seen task.now).atoms + 1 }
-    requires room { HasRoom ((T.seen task.now).atoms + 1) (length (T.seen task.now).actions) waiting.old }
+    requires room { HasRoom ((T.seen task.now).atoms + 1) (length (T.seen task.now).actions)
+        waiting.old }
     ensures spreads { OnOk result (Spreads (T.seen task.now) left.now.items limit
         reach.old.among.members reach.new.among.members) }
     ensures among_width { OnOk result (reach.new.among.width ≡ reach.old.among.width) }
@@ -137,7 +143,8 @@ fn look_at_ready<T: TaskView>(
     Ok(())
 }
 
-/// Lets a set grow by what actions add of whose cost at most `limit` is left, but for what is to stay outside.
+/// Lets a set grow by what actions add of whose cost at most `limit` is left, but for what is to
+/// stay outside.
 pub fn spread<T: TaskView>(
     alloc: Global,
     task: &T,
@@ -180,7 +187,8 @@ fn settle<T: TaskView>(task: &T, left: &Vec<u64>, among: &mut Bits)
     requires task { IsTask (T.seen task.now) }
     requires sized { length left.now.items ≡ length (T.seen task.now).actions }
     requires width { among.old.width ≡ (T.seen task.now).atoms + 1 }
-    ensures spreads { Spreads (T.seen task.now) left.now.items 0 among.old.members among.new.members }
+    ensures spreads { Spreads (T.seen task.now) left.now.items 0 among.old.members
+        among.new.members }
     ensures closed { IsClosedUnder (T.seen task.now) left.now.items 0 among.new.members }
     ensures width { among.new.width ≡ among.old.width }
 {
@@ -200,7 +208,8 @@ pub fn close<T: TaskView>(
     requires width { state.now.width ≡ (T.seen task.now).atoms + 1 }
     ensures spreads { IfOk result (λ closure. Spreads (T.seen task.now) left.now.items 0
         state.now.members closure.members) }
-    ensures closed { IfOk result (λ closure. IsClosedUnder (T.seen task.now) left.now.items 0 closure.members) }
+    ensures closed { IfOk result (λ closure. IsClosedUnder (T.seen task.now) left.now.items 0
+        closure.members) }
     ensures width { IfOk result (λ closure. closure.width ≡ state.now.width) }
 {
     let mut reach = Reach {

@@ -19,8 +19,10 @@ use task_kit::{Cut, Cuts, TaskView};
 // The greatest weight of a cut.
 const MOST: u64 = 70368744177663;
 
-/// Landmark cuts of a state, after Helmert and Domshlak, "Landmarks, Critical Paths and Abstractions: What's the Difference Anyway?"
-/// (ICAPS 2009). The list is empty where the goal atoms can be made true at no cost while nothing is deleted. A last cut that counts no
+/// Landmark cuts of a state, after Helmert and Domshlak, "Landmarks, Critical Paths and
+/// Abstractions: What's the Difference Anyway?"
+/// (ICAPS 2009). The list is empty where the goal atoms can be made true at no cost while nothing
+/// is deleted. A last cut that counts no
 /// action has the greatest weight: no list leads from the state to the goal.
 pub fn cuts_for<T: TaskView>(alloc: Global, task: &T, state: &Bits) -> Result<Cuts, NoMemory>
     requires width { state.now.width ≡ (T.seen task.now).atoms + 1 }
@@ -33,7 +35,8 @@ pub fn cuts_for<T: TaskView>(alloc: Global, task: &T, state: &Bits) -> Result<Cu
     ensures lean { IfOk result (λ cuts. AreLean (T.seen task.now)
         (cuts_meaning (T.seen task.now).atoms cuts)) }
     ensures ascending { IfOk result (All (λ cut. IsStrictlyIncreasing cut.lacks)) }
-    ensures atoms { IfOk result (All (λ cut. All (λ atom. atom < (T.seen task.now).atoms) cut.lacks)) }
+    ensures atoms { IfOk result (All (λ cut. All (λ atom. atom < (T.seen task.now).atoms)
+        cut.lacks)) }
 {
     let cuts = found_cuts(alloc, task, state)?;
     Ok(cuts)
@@ -48,7 +51,8 @@ fn found_cuts<T: TaskView>(alloc: Global, task: &T, state: &Bits) -> Result<Cuts
     let adding = Adding::for_task(alloc, task)?;
     let mut left = prices(alloc, task)?;
     let mut cuts = List::empty(alloc);
-    // Each cut uses up what is left of an action, so the last round finds the goal atoms in the closure, or a cut that counts no action.
+    // Each cut uses up what is left of an action, so the last round finds the goal atoms in the
+    // closure, or a cut that counts no action.
     for _ in 0..task.actions() as u64 + 1 {
         let closure = close(alloc, task, &left, state)?;
         if task.goal().is_subset(&closure) {

@@ -60,7 +60,8 @@ pub fn charge<T: TaskView>(task: &T, weight: u64, among: &Bits, left: &mut Vec<u
     requires sized { length left.old.items ≡ length (T.seen task.now).actions }
     requires width { among.now.width ≡ (T.seen task.now).atoms + 1 }
     requires within { (action : ℕ) → action < length (T.seen task.now).actions →
-        is_counted (T.seen task.now) action among.now.members ≡ true → weight ≤ slice_index left.old.items action }
+        is_counted (T.seen task.now) action among.now.members ≡ true
+        → weight ≤ slice_index left.old.items action }
     ensures each { (action : ℕ) → action < length (T.seen task.now).actions →
         slice_index left.new.items action + cond (is_counted (T.seen task.now) action among.now.members) weight 0
         ≡ slice_index left.old.items action }

@@ -1,4 +1,5 @@
-//! Cuts of a state of a task, which bound the cost of every list of actions from the state to the goal from below.
+//! Cuts of a state of a task, which bound the cost of every list of actions from the state to the
+//! goal from below.
 #![tactic(auto)]
 
 mod adding;

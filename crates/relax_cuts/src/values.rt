@@ -1,4 +1,5 @@
-//! The values of atoms by the heuristic h_max: what it costs at least to make an atom true, where an action costs as much as the dearest of
+//! The values of atoms by the heuristic h_max: what it costs at least to make an atom true, where
+//! an action costs as much as the dearest of
 //! its preconditions and what is left of its own cost.
 ghost use Rattle.std.specs.Prelude.{◌≡◌, ◌+◌, ◌<◌, length, OnOk};
 ghost use Rattle.relax_cuts.specs.Fronts.{IsFront};
@@ -12,7 +13,8 @@ use std::cmp::Reverse;
 use std::collections::BinaryHeap;
 use task_kit::TaskView;
 
-/// The value of each atom that can be made true, and of each action that can be made applicable the precondition of the greatest value.
+/// The value of each atom that can be made true, and of each action that can be made applicable the
+/// precondition of the greatest value.
 pub struct Values {
     of_atoms: Vec<Option<u64>>,
     supporters: Vec<Option<u32>>,
@@ -104,7 +106,8 @@ pub struct Front {
     values: Values,
 }
 
-// Looks at an action after an atom came in: lowers the values of what it adds where it is applicable now, or lets it wait. As atoms come in
+// Looks at an action after an atom came in: lowers the values of what it adds where it is
+// applicable now, or lets it wait. As atoms come in
 // by their values, the last precondition to come in is that with the greatest value.
 fn look_at<T: TaskView>(
     task: &T,
@@ -207,7 +210,8 @@ fn settle_all<T: TaskView>(
     Ok(())
 }
 
-/// The values where the atoms of a state have the value 0, after Bonet and Geffner, "Planning as Heuristic Search" (2001), by the algorithm
+/// The values where the atoms of a state have the value 0, after Bonet and Geffner, "Planning as
+/// Heuristic Search" (2001), by the algorithm
 /// of Dijkstra.
 pub fn values_of<T: TaskView>(
     alloc: Global,

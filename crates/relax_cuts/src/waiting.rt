@@ -1,11 +1,13 @@
-//! Actions that wait for an atom, so that each is looked at again only where one of its preconditions has come in.
+//! Actions that wait for an atom, so that each is looked at again only where one of its
+//! preconditions has come in.
 ghost use Rattle.std.specs.Prelude.{◌<◌, length, All, IfOk, IfSome, OnOk};
 ghost use Rattle.relax_cuts.specs.Waiting.{IsBelow, AreBelow};
 
 use mre_base::NoMemory;
 use std::alloc::Global;
 
-/// For each atom, the actions that wait for it, and the actions that wait no more. An action waits for one atom at a time.
+/// For each atom, the actions that wait for it, and the actions that wait no more. An action waits
+/// for one atom at a time.
 pub struct Waiting {
     // The last action that began to wait for an atom.
     last: Vec<Option<u32>>,

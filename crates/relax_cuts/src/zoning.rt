@@ -14,7 +14,8 @@ pub struct Aim {
     pub value: Option<u64>,
 }
 
-/// The goal atom outside the closure with the greatest value. What can't be made true is above every value.
+/// The goal atom outside the closure with the greatest value. What can't be made true is above
+/// every value.
 pub fn farthest<T: TaskView>(task: &T, closure: &Bits, values: &Values) -> Option<Aim>
     requires { closure.now.width ≡ (T.seen task.now).atoms + 1 }
 {
@@ -91,7 +92,8 @@ fn is_used_up(left: &Vec<u64>, action: u32) -> bool {
     left.get(action as usize).copied() == Some(0)
 }
 
-/// The zone of a goal atom: with each atom, the supporter of each action that adds it and of whose cost nothing is left.
+/// The zone of a goal atom: with each atom, the supporter of each action that adds it and of whose
+/// cost nothing is left.
 pub fn zone_of(
     alloc: Global,
     left: &Vec<u64>,

@@ -11,14 +11,23 @@ use Rattle.feature_diff.specs.declared.difference.Difference.{Difference}
 use Rattle.mre_words.specs.declared.request.Request.{Request}
 use Rattle.mre_words.specs.declared.request.Request.TheVariants.{Explain, Diff, Patch, PlanPatch}
 use Rattle.request_answers.specs.declared.stop.AnswerStop.{AnswerStop}
-use Rattle.request_answers.specs.declared.stop.AnswerStop.TheVariants.{Misread, Disagree, TooManyParameters, TooManyObjects, TooManyDifferences, TooManySteps, NotValid, Unbuilt, NotCheapest, NoMemory}
+use Rattle.request_answers.specs.declared.stop.AnswerStop.TheVariants.{Misread, Disagree}
+use Rattle.request_answers.specs.declared.stop.AnswerStop.TheVariants.{TooManyParameters}
+use Rattle.request_answers.specs.declared.stop.AnswerStop.TheVariants.{TooManyObjects}
+use Rattle.request_answers.specs.declared.stop.AnswerStop.TheVariants.{TooManyDifferences}
+use Rattle.request_answers.specs.declared.stop.AnswerStop.TheVariants.{TooManySteps, NotValid}
+use Rattle.request_answers.specs.declared.stop.AnswerStop.TheVariants.{Unbuilt, NotCheapest}
+use Rattle.request_answers.specs.declared.stop.AnswerStop.TheVariants.{NoMemory}
 use Rattle.request_answers.specs.declared.stop.PlanFault.{PlanFault}
 use Rattle.request_answers.specs.Texts.{AreModels, IsPlanIn, IsMisread, has_plan}
-use Rattle.request_answers.specs.Counts.{AreTooManyParameters, AreTooManyObjects, AreTooManyDifferences, AreTooManySteps}
-use Rattle.request_answers.specs.Questions.{Pose, AreCounted, AreServed, IsFault, IsUnserved, IsUndercut}
+use Rattle.request_answers.specs.Counts.{AreTooManyParameters, AreTooManyObjects}
+use Rattle.request_answers.specs.Counts.{AreTooManyDifferences, AreTooManySteps}
+use Rattle.request_answers.specs.Questions.{Pose, AreCounted, AreServed, IsFault, IsUnserved}
+use Rattle.request_answers.specs.Questions.{IsUndercut}
 
 -- the contents are texts of two models that don't agree, and this is their first disagreement
-pub record HaveDisagreement (request : Request) (contents : List (List ℕ)) (fault : PairFault) : Type 0 where
+pub record HaveDisagreement (request : Request) (contents : List (List ℕ))
+    (fault : PairFault) : Type 0 where
   pub planner_read : Model
   pub user_read : Model
   pub plan : List GroundAction
@@ -28,15 +37,18 @@ pub record HaveDisagreement (request : Request) (contents : List (List ℕ)) (fa
   pub first : IsFirstDisagreement planner_read.words user_read.words fault
 
 -- the contents ask a question, and a count of it is past its limit
-pub record HavePast (request : Request) (contents : List (List ℕ)) (IsPast : Model → Model → List GroundAction → Type 0) : Type 0 where
+pub record HavePast (request : Request) (contents : List (List ℕ))
+    (IsPast : Model → Model → List GroundAction → Type 0) : Type 0 where
   pub planner : Model
   pub user : Model
   pub plan : List GroundAction
   pub pose : Pose request contents planner user plan
   pub past : IsPast planner user plan
 
--- the contents ask a question about a plan, no count is past its limit, and something is wrong with the plan in the planner's model
-pub record HaveFault (request : Request) (contents : List (List ℕ)) (fault : PlanFault) : Type 0 where
+-- the contents ask a question about a plan, no count is past its limit, and something is wrong with
+-- the plan in the planner's model
+pub record HaveFault (request : Request) (contents : List (List ℕ))
+    (fault : PlanFault) : Type 0 where
   pub planner : Model
   pub user : Model
   pub plan : List GroundAction
@@ -52,7 +64,8 @@ IsToExplain (Diff files) = ⊥
 IsToExplain (Patch files) = ⊥
 IsToExplain (PlanPatch files) = ⊥
 
--- the contents ask for an explanation, the plan is valid in the planner's model, and this file is why none can be searched for yet
+-- the contents ask for an explanation, the plan is valid in the planner's model, and this file is
+-- why none can be searched for yet
 pub record HaveUnserved (request : Request) (contents : List (List ℕ)) (file : ℕ) : Type 0 where
   pub planner : Model
   pub user : Model
@@ -61,28 +74,37 @@ pub record HaveUnserved (request : Request) (contents : List (List ℕ)) (file :
   pub counted : AreCounted request contents planner user plan differences
   pub asked : IsToExplain request
   pub valid : IsValid (meaning planner) plan
-  pub unserved : IsUnserved counted.pose.planner_read.words counted.pose.user_read.words (length differences) file
+  pub unserved : IsUnserved counted.pose.planner_read.words counted.pose.user_read.words
+      (length differences) file
 
--- the contents ask for an explanation that can be searched for, and in the planner's model the printed steps cost less than the plan
-pub record HaveCheaper (request : Request) (contents : List (List ℕ)) (cost other : ℕ) (steps : List (List ℕ)) : Type 0 where
+-- the contents ask for an explanation that can be searched for, and in the planner's model the
+-- printed steps cost less than the plan
+pub record HaveCheaper (request : Request) (contents : List (List ℕ)) (cost other : ℕ)
+    (steps : List (List ℕ)) : Type 0 where
   pub planner : Model
   pub user : Model
   pub plan : List GroundAction
   pub differences : List Difference
   pub counted : AreCounted request contents planner user plan differences
   pub asked : IsToExplain request
-  pub served : AreServed counted.pose.planner_read.words counted.pose.user_read.words (length differences)
+  pub served : AreServed counted.pose.planner_read.words counted.pose.user_read.words
+      (length differences)
   pub undercut : IsUndercut planner.words (meaning planner) plan cost other steps
 
 -- the cause of a stop; want of memory needs none
 abbrev pub IsDue : Request → List (List ℕ) → AnswerStop → Type 0
 IsDue request contents (Misread file fault) = IsMisread request contents fault file
 IsDue request contents (Disagree fault) = HaveDisagreement request contents fault
-IsDue request contents (TooManyParameters found) = HavePast request contents (λ planner user plan. AreTooManyParameters planner.words found)
-IsDue request contents (TooManyObjects found) = HavePast request contents (λ planner user plan. AreTooManyObjects planner.words found)
-IsDue request contents (TooManyDifferences found) = HavePast request contents (λ planner user plan. AreTooManyDifferences planner user found)
-IsDue request contents (TooManySteps found) = HavePast request contents (λ planner user plan. AreTooManySteps planner user plan found)
+IsDue request contents (TooManyParameters found) =
+    HavePast request contents (λ planner user plan. AreTooManyParameters planner.words found)
+IsDue request contents (TooManyObjects found) =
+    HavePast request contents (λ planner user plan. AreTooManyObjects planner.words found)
+IsDue request contents (TooManyDifferences found) =
+    HavePast request contents (λ planner user plan. AreTooManyDifferences planner user found)
+IsDue request contents (TooManySteps found) =
+    HavePast request contents (λ planner user plan. AreTooManySteps planner user plan found)
 IsDue request contents (NotValid fault) = HaveFault request contents fault
 IsDue request contents (Unbuilt file) = HaveUnserved request contents file
-IsDue request contents (NotCheapest cost other steps) = HaveCheaper request contents cost other steps
+IsDue request contents (NotCheapest cost other steps) =
+    HaveCheaper request contents cost other steps
 IsDue request contents NoMemory = Unit {0}

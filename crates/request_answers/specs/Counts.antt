@@ -14,7 +14,8 @@ most_of (signature ∷ rest) = max (length signature.params) (most_of rest)
 
 -- the most parameters of an action, a predicate or a function
 abbrev pub most_parameters : Vocabulary → ℕ
-most_parameters words = max (most_of words.actions) (max (most_of words.predicates) (most_of words.functions))
+most_parameters words =
+    max (most_of words.actions) (max (most_of words.predicates) (most_of words.functions))
 
 -- at most 8 parameters and at most 1000 objects
 pub record AreSmall (words : Vocabulary) : Type 0 where
@@ -22,7 +23,8 @@ pub record AreSmall (words : Vocabulary) : Type 0 where
   pub objects : length words.objects ≤ 1000
 
 -- these are all differences of the two models, and no count is past its limit
-pub record AreWithinLimits (planner user : Model) (plan : List GroundAction) (differences : List Difference) : Type 0 where
+pub record AreWithinLimits (planner user : Model) (plan : List GroundAction)
+    (differences : List Difference) : Type 0 where
   pub small : AreSmall planner.words
   pub all : AreDifferencesOf planner user differences
   pub few : length differences ≤ 256
@@ -45,7 +47,8 @@ pub record AreTooManyDifferences (planner user : Model) (found : ℕ) : Type 0 w
   pub many : AreTooMany planner user found
 
 -- there are so many steps, more than 10000, and no count before is past its limit
-pub record AreTooManySteps (planner user : Model) (plan : List GroundAction) (found : ℕ) : Type 0 where
+pub record AreTooManySteps (planner user : Model) (plan : List GroundAction)
+    (found : ℕ) : Type 0 where
   pub small : AreSmall planner.words
   pub differences : List Difference
   pub all : AreDifferencesOf planner user differences

@@ -4,9 +4,16 @@ use Rattle.pddl_text.specs.declared.fault.TextFault.{TextFault}
 use Rattle.pddl_text.specs.declared.fault.TextRule.{TextRule}
 use Rattle.pddl_text.specs.declared.fault.TextRule.TheVariants as rule
 use Rattle.request_answers.specs.declared.stop.AnswerStop.{AnswerStop}
-use Rattle.request_answers.specs.declared.stop.AnswerStop.TheVariants.{Misread, Disagree, TooManyParameters, TooManyObjects, TooManyDifferences, TooManySteps, NotValid, Unbuilt, NotCheapest, NoMemory}
+use Rattle.request_answers.specs.declared.stop.AnswerStop.TheVariants.{Misread, Disagree}
+use Rattle.request_answers.specs.declared.stop.AnswerStop.TheVariants.{TooManyParameters}
+use Rattle.request_answers.specs.declared.stop.AnswerStop.TheVariants.{TooManyObjects}
+use Rattle.request_answers.specs.declared.stop.AnswerStop.TheVariants.{TooManyDifferences}
+use Rattle.request_answers.specs.declared.stop.AnswerStop.TheVariants.{TooManySteps, NotValid}
+use Rattle.request_answers.specs.declared.stop.AnswerStop.TheVariants.{Unbuilt, NotCheapest}
+use Rattle.request_answers.specs.declared.stop.AnswerStop.TheVariants.{NoMemory}
 use Rattle.request_answers.specs.declared.stop.PlanFault.{PlanFault}
-use Rattle.request_answers.specs.declared.stop.PlanFault.TheVariants.{StepNeeds, StepHasNoCost, EndsWithout}
+use Rattle.request_answers.specs.declared.stop.PlanFault.TheVariants.{StepNeeds, StepHasNoCost}
+use Rattle.request_answers.specs.declared.stop.PlanFault.TheVariants.{EndsWithout}
 
 abbrev pub status_of : AnswerStop → ℕ
 status_of (Misread file fault) = 5
@@ -56,27 +63,37 @@ behind_rule (byte ∷ word) = codes " " ++ (byte ∷ word)
 -- the line that tells a text's first fault: `mre: NAME:LINE:COLUMN: RULE WORD`
 abbrev pub text_line : List ℕ → TextFault → List ℕ
 text_line name fault =
-    codes "mre: " ++ (name ++ (codes ":" ++ (decimal fault.at.line ++ (codes ":" ++ (decimal fault.at.column
+    codes "mre: " ++ (name ++ (codes ":"
+    ++ (decimal fault.at.line ++ (codes ":" ++ (decimal fault.at.column
     ++ (codes ": " ++ (rule_name fault.rule ++ line (behind_rule fault.word))))))))
 
 -- the line that tells what is wrong with a plan
 abbrev pub fault_line : PlanFault → List ℕ
-fault_line (StepNeeds step atom) = codes "mre: plan step " ++ (decimal step ++ (codes " needs " ++ line atom))
-fault_line (StepHasNoCost step) = codes "mre: plan step " ++ (decimal step ++ line (codes " has no cost"))
+fault_line (StepNeeds step atom) =
+    codes "mre: plan step " ++ (decimal step ++ (codes " needs " ++ line atom))
+fault_line (StepHasNoCost step) =
+    codes "mre: plan step " ++ (decimal step ++ line (codes " has no cost"))
 fault_line (EndsWithout atom) = codes "mre: plan ends without " ++ line atom
 
 -- the first line that tells a stop, where the files have these names
 abbrev pub line_of : List (List ℕ) → AnswerStop → List ℕ
 line_of names (Misread file fault) = text_line (name_at names file) fault
 line_of names (Unbuilt file) = codes "mre: " ++ (name_at names file ++ line (codes ":1:1: unbuilt"))
-line_of names (Disagree fault) = codes "mre: models disagree: planner " ++ (fault.planner ++ (codes ", user " ++ line fault.user))
-line_of names (TooManyParameters found) = codes "mre: parameters " ++ (decimal found ++ line (codes " limit 8"))
-line_of names (TooManyObjects found) = codes "mre: objects " ++ (decimal found ++ line (codes " limit 1000"))
-line_of names (TooManyDifferences found) = codes "mre: differences " ++ (decimal found ++ line (codes " limit 256"))
-line_of names (TooManySteps found) = codes "mre: plan steps " ++ (decimal found ++ line (codes " limit 10000"))
+line_of names (Disagree fault) =
+    codes "mre: models disagree: planner "
+    ++ (fault.planner ++ (codes ", user " ++ line fault.user))
+line_of names (TooManyParameters found) =
+    codes "mre: parameters " ++ (decimal found ++ line (codes " limit 8"))
+line_of names (TooManyObjects found) =
+    codes "mre: objects " ++ (decimal found ++ line (codes " limit 1000"))
+line_of names (TooManyDifferences found) =
+    codes "mre: differences " ++ (decimal found ++ line (codes " limit 256"))
+line_of names (TooManySteps found) =
+    codes "mre: plan steps " ++ (decimal found ++ line (codes " limit 10000"))
 line_of names (NotValid fault) = fault_line fault
 line_of names (NotCheapest cost other steps) =
-    codes "mre: plan costs " ++ (decimal cost ++ (codes ", these lines cost " ++ (decimal other ++ line (codes ":"))))
+    codes "mre: plan costs " ++ (decimal cost
+    ++ (codes ", these lines cost " ++ (decimal other ++ line (codes ":"))))
 line_of names NoMemory = line (codes "mre: out of memory")
 
 -- the further lines: one for each step of a cheaper list

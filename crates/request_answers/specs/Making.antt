@@ -21,42 +21,54 @@ use Rattle.request_answers.specs.Steps.{IsOfCounts, IsOfPlan, IsServedBy, IsOfEx
 
 -- the task of a question, in which each difference weighs 1
 abbrev pub task_in : Question → List Difference → Task
-task_in question differences = even_task question.pair.planner question.pair.user differences question.plan.steps
+task_in question differences =
+    even_task question.pair.planner question.pair.user differences question.plan.steps
 
--- the plan is cheapest in the planner's model, the set is the first of its kind, and the text is its explanation
-pub record IsExplanation (kind : Kind) (question : Question) (differences : List Difference) (told : set.FinSet nat_cmp) (text : List ℕ) : Type 0 where
+-- the plan is cheapest in the planner's model, the set is the first of its kind, and the text is
+-- its explanation
+pub record IsExplanation (kind : Kind) (question : Question) (differences : List Difference)
+    (told : set.FinSet nat_cmp) (text : List ℕ) : Type 0 where
   pub served : IsServedBy question.unserved (length differences)
-  pub cheapest : IsCheapest question.pair.planner.words (meaning question.pair.planner) question.plan.steps
+  pub cheapest : IsCheapest question.pair.planner.words (meaning question.pair.planner)
+      question.plan.steps
   pub first : IsOfKind kind (task_in question differences) told
   pub text_is : text ≡ explanation (kind_name kind) (task_in question differences) told
 
 -- the request chooses these differences, and the text lists them
-pub record IsList (request : Request) (question : Question) (differences : List Difference) (chosen : set.FinSet nat_cmp) (text : List ℕ) : Type 0 where
+pub record IsList (request : Request) (question : Question) (differences : List Difference)
+    (chosen : set.FinSet nat_cmp) (text : List ℕ) : Type 0 where
   pub choice : IsChoice request question.pair.planner question.plan.steps differences chosen
   pub text_is : text ≡ listing request (task_in question differences) chosen
 
 -- what each request makes of a question with these differences
 abbrev pub IsMade : Request → Question → List Difference → set.FinSet nat_cmp → List ℕ → Type 0
-IsMade (Explain kind files) question differences told text = IsExplanation kind question differences told text
+IsMade (Explain kind files) question differences told text =
+    IsExplanation kind question differences told text
 IsMade request question differences told text = IsList request question differences told text
 
 -- why nothing is made of it
 abbrev pub IsOfMaking : Request → Question → ℕ → AnswerStop → Type 0
-IsOfMaking (Explain kind files) question count stop = IsOfExplaining question.pair.planner question.plan.steps question.unserved count stop
+IsOfMaking (Explain kind files) question count stop =
+    IsOfExplaining question.pair.planner question.plan.steps question.unserved count stop
 IsOfMaking (Diff files) question count NoMemory = Unit {0}
 IsOfMaking (Diff files) question count _ = ⊥
-IsOfMaking (Patch files) question count stop = IsOfPlan question.pair.planner.words (meaning question.pair.planner) question.plan.steps stop
-IsOfMaking (PlanPatch files) question count stop = IsOfPlan question.pair.planner.words (meaning question.pair.planner) question.plan.steps stop
+IsOfMaking (Patch files) question count stop =
+    IsOfPlan question.pair.planner.words (meaning question.pair.planner) question.plan.steps stop
+IsOfMaking (PlanPatch files) question count stop =
+    IsOfPlan question.pair.planner.words (meaning question.pair.planner) question.plan.steps stop
 
 -- what is made of a question that has no count past its limit
-pub record IsMadeOf (request : Request) (question : Question) (told : set.FinSet nat_cmp) (text : List ℕ) : Type 0 where
+pub record IsMadeOf (request : Request) (question : Question) (told : set.FinSet nat_cmp)
+    (text : List ℕ) : Type 0 where
   pub differences : List Difference
-  pub limits : AreWithinLimits question.pair.planner question.pair.user question.plan.steps differences
+  pub limits : AreWithinLimits question.pair.planner question.pair.user question.plan.steps
+      differences
   pub made : IsMade request question differences told text
 
 -- why nothing is made of a question: a count is past its limit, or none is
 pub data IsOfAnswering (request : Request) (question : Question) (stop : AnswerStop) : Type 0 where
-  counted : IsOfCounts question.pair.planner question.pair.user question.plan.steps stop → IsOfAnswering request question stop
+  counted : IsOfCounts question.pair.planner question.pair.user question.plan.steps stop
+      → IsOfAnswering request question stop
   made : (differences : List Difference)
       → AreWithinLimits question.pair.planner question.pair.user question.plan.steps differences
       → IsOfMaking request question (length differences) stop

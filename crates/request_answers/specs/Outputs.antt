@@ -35,15 +35,18 @@ AsksMce (Diff files) = Unit {0}
 AsksMce (Patch files) = Unit {0}
 AsksMce (PlanPatch files) = Unit {0}
 
--- the contents ask a question that a search serves, the plan is cheapest in the planner's model, and the set is the first of the kind in
+-- the contents ask a question that a search serves, the plan is cheapest in the planner's model,
+-- and the set is the first of the kind in
 -- their task, in which each difference weighs 1
-pub record IsExplained (request : Request) (contents : List (List ℕ)) (kind : Kind) (task : Task) (told : set.FinSet nat_cmp) : Type 0 where
+pub record IsExplained (request : Request) (contents : List (List ℕ)) (kind : Kind) (task : Task)
+    (told : set.FinSet nat_cmp) : Type 0 where
   pub planner : Model
   pub user : Model
   pub plan : List GroundAction
   pub differences : List Difference
   pub counted : AreCounted request contents planner user plan differences
-  pub served : AreServed counted.pose.planner_read.words counted.pose.user_read.words (length differences)
+  pub served : AreServed counted.pose.planner_read.words counted.pose.user_read.words
+      (length differences)
   pub cheapest : IsCheapest planner.words (meaning planner) plan
   pub task_is : task ≡ even_task planner user differences plan
   pub first : IsOfKind kind task told
@@ -55,26 +58,34 @@ abbrev pub AreAll : ℕ → set.FinSet nat_cmp → Type 0
 AreAll count chosen = chosen ≡ all_to count
 
 -- what a request for a list asks of the plan, and which differences it lists
-abbrev pub IsChoice : Request → Model → List GroundAction → List Difference → set.FinSet nat_cmp → Type 0
+abbrev pub IsChoice : Request → Model → List GroundAction → List Difference → set.FinSet nat_cmp
+    → Type 0
 IsChoice (Diff files) planner plan differences chosen = AreAll (length differences) chosen
-IsChoice (Patch files) planner plan differences chosen = IsValid (meaning planner) plan × AreAll (length differences) chosen
-IsChoice (PlanPatch files) planner plan differences chosen = IsValid (meaning planner) plan × AreUsed plan (places_of differences) chosen
+IsChoice (Patch files) planner plan differences chosen =
+    IsValid (meaning planner) plan × AreAll (length differences) chosen
+IsChoice (PlanPatch files) planner plan differences chosen =
+    IsValid (meaning planner) plan × AreUsed plan (places_of differences) chosen
 IsChoice (Explain kind files) planner plan differences chosen = ⊥
 
 -- the first line of a list of so many differences, out of all
 abbrev pub list_head : Request → ℕ → ℕ → List ℕ
 list_head (Diff files) chosen all = codes "differences " ++ decimal all
-list_head (Patch files) chosen all = codes "patch " ++ (decimal chosen ++ (codes " of " ++ decimal all))
-list_head (PlanPatch files) chosen all = codes "plan-patch " ++ (decimal chosen ++ (codes " of " ++ decimal all))
+list_head (Patch files) chosen all =
+    codes "patch " ++ (decimal chosen ++ (codes " of " ++ decimal all))
+list_head (PlanPatch files) chosen all =
+    codes "plan-patch " ++ (decimal chosen ++ (codes " of " ++ decimal all))
 list_head (Explain kind files) chosen all = codes ""
 
 -- the first line, and the line of each chosen difference, in ascending order
 abbrev pub listing : Request → Task → set.FinSet nat_cmp → List ℕ
 listing request task chosen =
-    line (list_head request (count_of chosen) (length task.places)) ++ flat_map (difference_line task) (numbers (length task.places) chosen)
+    line (list_head request (count_of chosen) (length task.places))
+    ++ flat_map (difference_line task) (numbers (length task.places) chosen)
 
--- the contents ask a question, the request chooses these of its differences, and the text lists them
-pub record IsListed (request : Request) (contents : List (List ℕ)) (chosen : set.FinSet nat_cmp) (text : List ℕ) : Type 0 where
+-- the contents ask a question, the request chooses these of its differences, and the text lists
+-- them
+pub record IsListed (request : Request) (contents : List (List ℕ)) (chosen : set.FinSet nat_cmp)
+    (text : List ℕ) : Type 0 where
   pub planner : Model
   pub user : Model
   pub plan : List GroundAction
@@ -88,5 +99,6 @@ pub record IsListed (request : Request) (contents : List (List ℕ)) (chosen : s
 -- the text is what the request prints about these contents, and it tells the differences in the set
 abbrev pub IsAnswer : Request → List (List ℕ) → set.FinSet nat_cmp → List ℕ → Type 0
 IsAnswer (Explain kind files) contents told text =
-    (task : Task) × IsExplained (Explain kind files) contents kind task told × (text ≡ explanation (kind_name kind) task told)
+    (task : Task) × IsExplained (Explain kind files) contents kind task told
+    × (text ≡ explanation (kind_name kind) task told)
 IsAnswer request contents told text = IsListed request contents told text

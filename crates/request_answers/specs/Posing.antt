@@ -1,4 +1,5 @@
--- What is known of a question that contents ask: its models and plan, and whether an explanation of it can be searched for.
+-- What is known of a question that contents ask: its models and plan, and whether an explanation of
+-- it can be searched for.
 use Rattle.std.specs.Prelude.{ℕ, ◌≡◌, List, [], All, IfSome, IfNone}
 use Rattle.model_kit.specs.Vocabulary.{IsGroundAction}
 use Rattle.model_kit.specs.Pairs.{ArePaired}
@@ -18,15 +19,21 @@ pub record AreTexts (request : Request) (contents : List (List ℕ)) (texts : Te
 
 -- the question has the models side by side and the plan, and says whether their words are served
 pub record IsJoined (texts : Texts) (question : Question) : Type 0 where
-  pub paired : ArePaired texts.models.planner texts.models.user question.pair.planner.words question.pair.planner question.pair.user
+  pub paired : ArePaired texts.models.planner texts.models.user question.pair.planner.words
+      question.pair.planner question.pair.user
   pub plan : question.plan ≡ texts.plan
-  pub served : IfNone question.unserved (AreServedWords texts.models.planner.words texts.models.user.words)
-  pub unserved : IfSome question.unserved (AreUnservedWords texts.models.planner.words texts.models.user.words)
+  pub served : IfNone question.unserved
+      (AreServedWords texts.models.planner.words texts.models.user.words)
+  pub unserved : IfSome question.unserved
+      (AreUnservedWords texts.models.planner.words texts.models.user.words)
 
 -- the question is that of the contents, and it says whether its words are served
-pub record IsQuestion (request : Request) (contents : List (List ℕ)) (question : Question) : Type 0 where
+pub record IsQuestion (request : Request) (contents : List (List ℕ))
+    (question : Question) : Type 0 where
   pub pose : Pose request contents question.pair.planner question.pair.user question.plan.steps
   pub fits : All (IsGroundAction question.pair.planner.words) question.plan.steps
-  pub served : IfNone question.unserved (AreServedWords pose.planner_read.words pose.user_read.words)
-  pub unserved : IfSome question.unserved (AreUnservedWords pose.planner_read.words pose.user_read.words)
+  pub served : IfNone question.unserved
+      (AreServedWords pose.planner_read.words pose.user_read.words)
+  pub unserved : IfSome question.unserved
+      (AreUnservedWords pose.planner_read.words pose.user_read.words)
   pub ready : IfNone question.unserved (AreReady question.pair.planner.words question.plan.steps)

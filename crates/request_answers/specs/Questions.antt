@@ -1,5 +1,7 @@
--- What the contents of a request's files ask: two models side by side and a plan; and what may be said of these on the way to an answer.
-use Rattle.std.specs.Prelude.{ℕ, ◌≡◌, ◌≤◌, ◌<◌, ◌&&◌, Bool, false, IsTrue, List, length, map, All, nat_le}
+-- What the contents of a request's files ask: two models side by side and a plan; and what may be
+-- said of these on the way to an answer.
+use Rattle.std.specs.Prelude.{ℕ, ◌≡◌, ◌≤◌, ◌<◌, ◌&&◌, Bool, false, IsTrue, List, length, map, All}
+use Rattle.std.specs.Prelude.{nat_le}
 use Rattle.model_kit.specs.declared.vocabulary.Vocabulary.{Vocabulary}
 use Rattle.model_kit.specs.declared.model.Model.{Model}
 use Rattle.model_kit.specs.declared.action.GroundAction.{GroundAction}
@@ -15,12 +17,15 @@ use Rattle.model_kit.specs.Pairs.{ArePaired}
 use Rattle.feature_diff.specs.declared.difference.Difference.{Difference}
 use Rattle.mre_words.specs.declared.request.Request.{Request}
 use Rattle.request_answers.specs.declared.stop.PlanFault.{PlanFault}
-use Rattle.request_answers.specs.declared.stop.PlanFault.TheVariants.{StepNeeds, StepHasNoCost, EndsWithout}
+use Rattle.request_answers.specs.declared.stop.PlanFault.TheVariants.{StepNeeds, StepHasNoCost}
+use Rattle.request_answers.specs.declared.stop.PlanFault.TheVariants.{EndsWithout}
 use Rattle.request_answers.specs.Texts.{AreModels, IsPlanIn, has_plan}
 use Rattle.request_answers.specs.Counts.{AreWithinLimits}
 
--- the contents are texts of two models that agree, which are these in the numbers of their joint vocabulary, and of this plan
-pub record Pose (request : Request) (contents : List (List ℕ)) (planner user : Model) (plan : List GroundAction) : Type 0 where
+-- the contents are texts of two models that agree, which are these in the numbers of their joint
+-- vocabulary, and of this plan
+pub record Pose (request : Request) (contents : List (List ℕ)) (planner user : Model)
+    (plan : List GroundAction) : Type 0 where
   pub planner_read : Model
   pub user_read : Model
   pub models : AreModels contents planner_read user_read
@@ -28,19 +33,25 @@ pub record Pose (request : Request) (contents : List (List ℕ)) (planner user :
   pub paired : ArePaired planner_read user_read planner.words planner user
 
 -- the same, these are all differences of the two, and no count is past its limit
-pub record AreCounted (request : Request) (contents : List (List ℕ)) (planner user : Model) (plan : List GroundAction) (differences : List Difference) : Type 0 where
+pub record AreCounted (request : Request) (contents : List (List ℕ)) (planner user : Model)
+    (plan : List GroundAction) (differences : List Difference) : Type 0 where
   pub pose : Pose request contents planner user plan
   pub limits : AreWithinLimits planner user plan differences
 
--- what is said of a plan that isn't valid: the first step that doesn't apply with the printed atom that it lacks, or without a cost,
+-- what is said of a plan that isn't valid: the first step that doesn't apply with the printed atom
+-- that it lacks, or without a cost,
 -- or the first goal fact that is missing
 abbrev pub IsFault : Vocabulary → Meaning → List GroundAction → PlanFault → Type 0
-IsFault words model plan (StepNeeds step text) = (atom : GroundAtom) × Judges words model plan (Fails step atom) × (text ≡ atom_form words atom)
+IsFault words model plan (StepNeeds step text) =
+    (atom : GroundAtom) × Judges words model plan (Fails step atom) × (text ≡ atom_form words atom)
 IsFault words model plan (StepHasNoCost step) = Judges words model plan (NoCost step)
-IsFault words model plan (EndsWithout text) = (atom : GroundAtom) × Judges words model plan (GoalMissing atom) × (text ≡ atom_form words atom)
+IsFault words model plan (EndsWithout text) =
+    (atom : GroundAtom) × Judges words model plan (GoalMissing atom) × (text ≡ atom_form words atom)
 
--- the plan is valid and has the first cost, and the printed steps are a valid list of ground actions with the second, smaller cost
-pub record IsUndercut (words : Vocabulary) (model : Meaning) (plan : List GroundAction) (costs other : ℕ) (steps : List (List ℕ)) : Type 0 where
+-- the plan is valid and has the first cost, and the printed steps are a valid list of ground
+-- actions with the second, smaller cost
+pub record IsUndercut (words : Vocabulary) (model : Meaning) (plan : List GroundAction)
+    (costs other : ℕ) (steps : List (List ℕ)) : Type 0 where
   pub valid : IsValid model plan
   pub costs_are : costs ≡ cost model plan
   pub list : List GroundAction
@@ -50,27 +61,33 @@ pub record IsUndercut (words : Vocabulary) (model : Meaning) (plan : List Ground
   pub other_is : other ≡ cost model list
   pub less : other < costs
 
--- a search serves these words: no predicate and no action has parameters, at most 64 of each, and no cost is a function's value
+-- a search serves these words: no predicate and no action has parameters, at most 64 of each, and
+-- no cost is a function's value
 abbrev pub is_served : Vocabulary → Bool
-is_served words = is_plain words && (nat_le (length words.predicates) 64 && nat_le (length words.actions) 64)
+is_served words =
+    is_plain words && (nat_le (length words.predicates) 64 && nat_le (length words.actions) 64)
 
 -- the first domain whose words no search serves
 pub data AreUnservedWords (planner user : Vocabulary) : ℕ → Type 0 where
   planner_domain : is_served planner ≡ false → AreUnservedWords planner user 0
-  user_domain : IsTrue (is_served planner) → is_served user ≡ false → AreUnservedWords planner user 2
+  user_domain : IsTrue (is_served planner) → is_served user ≡ false
+      → AreUnservedWords planner user 2
 
 -- the words of both domains are served
 pub record AreServedWords (planner user : Vocabulary) : Type 0 where
   pub planner_domain : IsTrue (is_served planner)
   pub user_domain : IsTrue (is_served user)
 
--- which file no explanation can be searched for yet: the first domain whose words aren't served, and else the plan, where there are
+-- which file no explanation can be searched for yet: the first domain whose words aren't served,
+-- and else the plan, where there are
 -- more than 16 differences
 pub data IsUnserved (planner user : Vocabulary) (count file : ℕ) : Type 0 where
   of_words : AreUnservedWords planner user file → IsUnserved planner user count file
-  of_differences : AreServedWords planner user → 16 < count → file ≡ 4 → IsUnserved planner user count file
+  of_differences : AreServedWords planner user → 16 < count → file ≡ 4
+      → IsUnserved planner user count file
 
--- an explanation can be searched for: the words are served, and every set of at most 16 differences is tried
+-- an explanation can be searched for: the words are served, and every set of at most 16 differences
+-- is tried
 pub record AreServed (planner user : Vocabulary) (count : ℕ) : Type 0 where
   pub words : AreServedWords planner user
   pub few : count ≤ 16

@@ -8,9 +8,16 @@ use Rattle.model_kit.specs.Places.{Meaning, meaning}
 use Rattle.model_kit.specs.Runs.{IsValid}
 use Rattle.mre_words.specs.declared.request.Request.{Request}
 use Rattle.request_answers.specs.declared.stop.AnswerStop.{AnswerStop}
-use Rattle.request_answers.specs.declared.stop.AnswerStop.TheVariants.{Misread, Disagree, TooManyParameters, TooManyObjects, TooManyDifferences, TooManySteps, NotValid, Unbuilt, NotCheapest, NoMemory}
+use Rattle.request_answers.specs.declared.stop.AnswerStop.TheVariants.{Misread, Disagree}
+use Rattle.request_answers.specs.declared.stop.AnswerStop.TheVariants.{TooManyParameters}
+use Rattle.request_answers.specs.declared.stop.AnswerStop.TheVariants.{TooManyObjects}
+use Rattle.request_answers.specs.declared.stop.AnswerStop.TheVariants.{TooManyDifferences}
+use Rattle.request_answers.specs.declared.stop.AnswerStop.TheVariants.{TooManySteps, NotValid}
+use Rattle.request_answers.specs.declared.stop.AnswerStop.TheVariants.{Unbuilt, NotCheapest}
+use Rattle.request_answers.specs.declared.stop.AnswerStop.TheVariants.{NoMemory}
 use Rattle.request_answers.specs.Texts.{IsMisread, IsMisreadModel, IsMisreadPlan}
-use Rattle.request_answers.specs.Counts.{AreTooManyParameters, AreTooManyObjects, AreTooManyDifferences, AreTooManySteps}
+use Rattle.request_answers.specs.Counts.{AreTooManyParameters, AreTooManyObjects}
+use Rattle.request_answers.specs.Counts.{AreTooManyDifferences, AreTooManySteps}
 use Rattle.request_answers.specs.Questions.{IsFault, IsUndercut}
 use Rattle.request_answers.specs.Causes.{HaveDisagreement}
 use Rattle.joint_models.specs.Disagreements.{IsFirstDisagreement}
@@ -30,13 +37,15 @@ IsOfModels contents _ = ⊥
 
 -- the plan's text has a fault
 abbrev pub IsOfPlanText : Request → List (List ℕ) → Model → AnswerStop → Type 0
-IsOfPlanText request contents planner (Misread file fault) = IsMisreadPlan request contents planner fault file
+IsOfPlanText request contents planner (Misread file fault) =
+    IsMisreadPlan request contents planner fault file
 IsOfPlanText request contents planner NoMemory = Unit {0}
 IsOfPlanText request contents planner _ = ⊥
 
 -- two vocabularies don't agree
 abbrev pub IsOfPairing : Vocabulary → Vocabulary → AnswerStop → Type 0
-IsOfPairing planner user (Disagree fault) = IsFirstDisagreement planner user fault × ¬ Agree planner user
+IsOfPairing planner user (Disagree fault) =
+    IsFirstDisagreement planner user fault × ¬ Agree planner user
 IsOfPairing planner user NoMemory = Unit {0}
 IsOfPairing planner user _ = ⊥
 
@@ -70,27 +79,33 @@ IsOfPlan words model plan _ = ⊥
 
 -- the plan isn't cheapest
 abbrev pub IsOfCost : Vocabulary → Meaning → List GroundAction → AnswerStop → Type 0
-IsOfCost words model plan (NotCheapest cost other steps) = IsUndercut words model plan cost other steps
+IsOfCost words model plan (NotCheapest cost other steps) =
+    IsUndercut words model plan cost other steps
 IsOfCost words model plan NoMemory = Unit {0}
 IsOfCost words model plan _ = ⊥
 
--- the words are served and the differences few enough to try every set, where this is the first domain whose words aren't
+-- the words are served and the differences few enough to try every set, where this is the first
+-- domain whose words aren't
 abbrev pub IsServedBy : Option ℕ → ℕ → Type 0
 IsServedBy unserved count = (unserved ≡ None) × (count ≤ 16)
 
 -- what isn't served: that domain, and else the plan's many differences
 abbrev pub IsUnservedBy : Option ℕ → ℕ → ℕ → Type 0
-IsUnservedBy unserved count file = (unserved ≡ Some file) ⊎ ((unserved ≡ None) × (16 < count) × (file ≡ 4))
+IsUnservedBy unserved count file =
+    (unserved ≡ Some file) ⊎ ((unserved ≡ None) × (16 < count) × (file ≡ 4))
 
 -- no explanation can be searched for
 abbrev pub IsOfService : Option ℕ → ℕ → AnswerStop → Type 0
 IsOfService unserved count (Unbuilt file) = IsUnservedBy unserved count file
 IsOfService unserved count _ = ⊥
 
--- a plan isn't explained: it isn't valid, or no explanation can be searched for, or it isn't cheapest
+-- a plan isn't explained: it isn't valid, or no explanation can be searched for, or it isn't
+-- cheapest
 abbrev pub IsOfExplaining : Model → List GroundAction → Option ℕ → ℕ → AnswerStop → Type 0
-IsOfExplaining planner plan unserved count (NotValid fault) = IsFault planner.words (meaning planner) plan fault
-IsOfExplaining planner plan unserved count (Unbuilt file) = IsValid (meaning planner) plan × IsUnservedBy unserved count file
+IsOfExplaining planner plan unserved count (NotValid fault) =
+    IsFault planner.words (meaning planner) plan fault
+IsOfExplaining planner plan unserved count (Unbuilt file) =
+    IsValid (meaning planner) plan × IsUnservedBy unserved count file
 IsOfExplaining planner plan unserved count (NotCheapest cost other steps) =
     IsServedBy unserved count × IsUndercut planner.words (meaning planner) plan cost other steps
 IsOfExplaining planner plan unserved count NoMemory = Unit {0}

@@ -1,5 +1,7 @@
--- What the contents of a request's files are: the texts of two models and of a plan, or the first text that has a fault.
-use Rattle.std.specs.Prelude.{ℕ, ◌≡◌, ◌≤◌, Bool, true, false, IsTrue, List, [], length, All, slice_index_or}
+-- What the contents of a request's files are: the texts of two models and of a plan, or the first
+-- text that has a fault.
+use Rattle.std.specs.Prelude.{ℕ, ◌≡◌, ◌≤◌, Bool, true, false, IsTrue, List, [], length, All}
+use Rattle.std.specs.Prelude.{slice_index_or}
 use Rattle.pddl_text.specs.declared.fault.TextFault.{TextFault}
 use Rattle.model_kit.specs.declared.model.Model.{Model}
 use Rattle.model_kit.specs.declared.vocabulary.Vocabulary.{Vocabulary}
@@ -11,7 +13,8 @@ use Rattle.pddl_read.specs.Texts.{IsDomainText, IsProblemText, IsDomainFault, Is
 use Rattle.mre_words.specs.declared.request.Request.{Request}
 use Rattle.mre_words.specs.declared.request.Request.TheVariants.{Explain, Diff, Patch, PlanPatch}
 
--- the content at a place, counted from 0: the planner's domain and problem, the user's domain and problem, the plan
+-- the content at a place, counted from 0: the planner's domain and problem, the user's domain and
+-- problem, the plan
 abbrev pub text_at : List (List ℕ) → ℕ → List ℕ
 text_at contents place = slice_index_or contents place []
 
@@ -30,7 +33,8 @@ has_plan (Diff files) = false
 has_plan (Patch files) = true
 has_plan (PlanPatch files) = true
 
--- the first four contents are texts of two domains and of a problem of each, and these are the models of both
+-- the first four contents are texts of two domains and of a problem of each, and these are the
+-- models of both
 pub record AreModels (contents : List (List ℕ)) (planner user : Model) : Type 0 where
   pub planner_domain : Domain
   pub user_domain : Domain
@@ -41,14 +45,16 @@ pub record AreModels (contents : List (List ℕ)) (planner user : Model) : Type 
 
 -- the bytes are the text of a plan with these steps
 abbrev pub IsTextOfPlan : Vocabulary → List ℕ → List GroundAction → Type 0
-IsTextOfPlan words bytes steps = IsPlanText words bytes (let plan : Plan = record { steps = steps } in plan)
+IsTextOfPlan words bytes steps =
+    IsPlanText words bytes (let plan : Plan = record { steps = steps } in plan)
 
 -- the plan of a request, read in the planner's vocabulary; a request without one has the empty plan
 abbrev pub IsPlanIn : Bool → List (List ℕ) → Model → List GroundAction → Type 0
 IsPlanIn true contents planner steps = IsTextOfPlan planner.words (text_at contents 4) steps
 IsPlanIn false contents planner steps = steps ≡ []
 
--- the first text of a model that has a fault stands at this place, each before it is a text, and this is its first fault
+-- the first text of a model that has a fault stands at this place, each before it is a text, and
+-- this is its first fault
 pub data IsMisreadModel (contents : List (List ℕ)) (fault : TextFault) : ℕ → Type 0 where
   planner_domain : IsDomainFault (text_at contents 0) fault → IsMisreadModel contents fault 0
   planner_problem : (domain : Domain)
@@ -68,13 +74,16 @@ pub data IsMisreadModel (contents : List (List ℕ)) (fault : TextFault) : ℕ �
       → IsMisreadModel contents fault 3
 
 -- the plan of the request is asked for, and this is the first fault of its text
-pub record IsMisreadPlan (request : Request) (contents : List (List ℕ)) (planner : Model) (fault : TextFault) (file : ℕ) : Type 0 where
+pub record IsMisreadPlan (request : Request) (contents : List (List ℕ)) (planner : Model)
+    (fault : TextFault) (file : ℕ) : Type 0 where
   pub asked : IsTrue (has_plan request)
   pub here : file ≡ 4
   pub fault_is : IsFirstFault planner.words (text_at contents 4) fault
 
--- the first content that is outside its grammar stands at this place, each before it is a text, and this is its first fault
-pub data IsMisread (request : Request) (contents : List (List ℕ)) (fault : TextFault) (file : ℕ) : Type 0 where
+-- the first content that is outside its grammar stands at this place, each before it is a text, and
+-- this is its first fault
+pub data IsMisread (request : Request) (contents : List (List ℕ)) (fault : TextFault)
+    (file : ℕ) : Type 0 where
   of_model : IsMisreadModel contents fault file → IsMisread request contents fault file
   of_plan : (planner user : Model)
       → AreModels contents planner user

@@ -7,7 +7,8 @@ ghost use Rattle.mre_words.specs.Requests.{count_of};
 ghost use Rattle.request_answers.specs.Causes.{IsDue};
 ghost use Rattle.request_answers.specs.Counts.{AreWithinLimits};
 ghost use Rattle.request_answers.specs.Lines.{IsOfFile, IsLine};
-ghost use Rattle.request_answers.specs.Making.{task_in, IsMade, IsOfMaking, IsMadeOf, IsOfAnswering};
+ghost use Rattle.request_answers.specs.Making.{task_in, IsMade, IsOfMaking, IsMadeOf};
+ghost use Rattle.request_answers.specs.Making.{IsOfAnswering};
 ghost use Rattle.request_answers.specs.Outputs.{IsAnswer, AsksMce, listing};
 ghost use Rattle.request_answers.specs.Questions.{AreReady};
 ghost use Rattle.request_answers.specs.Steps.{IsOfPlan};
@@ -35,7 +36,8 @@ pub struct Made {
     pub lines: List<Text>,
 }
 
-/// The answer to a request about files with these contents, which stand in the order of its names; or why there is none. An
+/// The answer to a request about files with these contents, which stand in the order of its names;
+/// or why there is none. An
 /// explanation is asked for as an MCE.
 pub fn answer_texts(
     alloc: Global,
@@ -65,8 +67,10 @@ fn answer_question(
 ) -> Result<Made, AnswerStop>
     requires mce { AsksMce request.now }
     requires fits { All (IsGroundAction question.now.pair.planner.words) question.now.plan.steps }
-    requires ready { IfNone question.now.unserved (AreReady question.now.pair.planner.words question.now.plan.steps) }
-    ensures ok { IfOk result (λ made. IsMadeOf request.now question.now made.told (concat made.lines)) }
+    requires ready { IfNone question.now.unserved
+        (AreReady question.now.pair.planner.words question.now.plan.steps) }
+    ensures ok { IfOk result (λ made. IsMadeOf request.now question.now made.told
+        (concat made.lines)) }
     ensures whole { IfOk result (λ made. All IsLine made.lines) }
     ensures err { IfErr result (IsOfAnswering request.now question.now) }
 {
@@ -84,10 +88,13 @@ fn answer_counted(
     differences: &List<Difference>,
 ) -> Result<Made, AnswerStop>
     requires mce { AsksMce request.now }
-    requires limits { AreWithinLimits question.now.pair.planner question.now.pair.user question.now.plan.steps differences.now }
+    requires limits { AreWithinLimits question.now.pair.planner question.now.pair.user
+        question.now.plan.steps differences.now }
     requires fits { All (IsGroundAction question.now.pair.planner.words) question.now.plan.steps }
-    requires ready { IfNone question.now.unserved (AreReady question.now.pair.planner.words question.now.plan.steps) }
-    ensures ok { IfOk result (λ made. IsMade request.now question.now differences.now made.told (concat made.lines)) }
+    requires ready { IfNone question.now.unserved
+        (AreReady question.now.pair.planner.words question.now.plan.steps) }
+    ensures ok { IfOk result (λ made. IsMade request.now question.now differences.now made.told
+        (concat made.lines)) }
     ensures whole { IfOk result (λ made. All IsLine made.lines) }
     ensures err { IfErr result (IsOfMaking request.now question.now (length differences.now)) }
 {
@@ -116,14 +123,17 @@ fn list_valid(
     differences: &List<Difference>,
     chosen: Places,
 ) -> Result<Made, AnswerStop>
-    requires limits { AreWithinLimits question.now.pair.planner question.now.pair.user question.now.plan.steps differences.now }
+    requires limits { AreWithinLimits question.now.pair.planner question.now.pair.user
+        question.now.plan.steps differences.now }
     requires fits { All (IsGroundAction question.now.pair.planner.words) question.now.plan.steps }
-    ensures valid { OnOk result (IsValid (meaning question.now.pair.planner) question.now.plan.steps) }
+    ensures valid { OnOk result (IsValid (meaning question.now.pair.planner)
+        question.now.plan.steps) }
     ensures told { IfOk result (λ made. made.told ≡ chosen) }
     ensures lines { IfOk result (λ made. concat made.lines ≡ listing request.now
         (task_in question.now differences.now) chosen) }
     ensures whole { IfOk result (λ made. All IsLine made.lines) }
-    ensures err { IfErr result (IsOfPlan question.now.pair.planner.words (meaning question.now.pair.planner)
+    ensures err { IfErr result (IsOfPlan question.now.pair.planner.words
+        (meaning question.now.pair.planner)
         question.now.plan.steps) }
 {
     match judge(alloc, question.pair.planner(), &question.plan) {

@@ -1,5 +1,6 @@
 ghost use Rattle.std.specs.Prelude.{◌≡◌, max, IfOk, IfErr, OnOk};
-ghost use Rattle.request_answers.specs.Counts.{AreWithinLimits, AreSmall, most_of as most_in, most_parameters as most_in_words};
+ghost use Rattle.request_answers.specs.Counts.{AreWithinLimits, AreSmall, most_of as most_in};
+ghost use Rattle.request_answers.specs.Counts.{most_parameters as most_in_words};
 ghost use Rattle.request_answers.specs.Steps.{IsOfCounts, IsOfWords};
 
 use crate::AnswerStop;
@@ -17,7 +18,8 @@ const OBJECT_LIMIT: usize = 1000;
 /// The steps that a plan may have.
 const STEP_LIMIT: usize = 10_000;
 
-/// All differences of the pair, where no count is past its limit. The counts go in the order of their limits above, the differences
+/// All differences of the pair, where no count is past its limit. The counts go in the order of
+/// their limits above, the differences
 /// before the plan's steps.
 pub fn count(alloc: Global, pair: &Pair, plan: &Plan) -> Result<List<Difference>, AnswerStop>
     ensures ok { IfOk result (AreWithinLimits pair.now.planner pair.now.user plan.now.steps) }

@@ -25,20 +25,25 @@ use std::alloc::Global;
 /// The differences of which every set can be tried.
 const MOST_TRIED: usize = 16;
 
-/// The MCE of a question with these differences, and its lines; or what is wrong with the plan in the planner's model, what can't be
+/// The MCE of a question with these differences, and its lines; or what is wrong with the plan in
+/// the planner's model, what can't be
 /// served yet, or a cheaper list.
 pub fn explain(
     alloc: Global,
     question: &Question,
     differences: &List<Difference>,
 ) -> Result<Made, AnswerStop>
-    requires limits { AreWithinLimits question.now.pair.planner question.now.pair.user question.now.plan.steps differences.now }
+    requires limits { AreWithinLimits question.now.pair.planner question.now.pair.user
+        question.now.plan.steps differences.now }
     requires fits { All (IsGroundAction question.now.pair.planner.words) question.now.plan.steps }
-    requires ready { IfNone question.now.unserved (AreReady question.now.pair.planner.words question.now.plan.steps) }
+    requires ready { IfNone question.now.unserved
+        (AreReady question.now.pair.planner.words question.now.plan.steps) }
     ensures served { OnOk result (IsServedBy question.now.unserved (length differences.now)) }
-    ensures cheapest { OnOk result (IsCheapest question.now.pair.planner.words (meaning question.now.pair.planner)
+    ensures cheapest { OnOk result (IsCheapest question.now.pair.planner.words
+        (meaning question.now.pair.planner)
         question.now.plan.steps) }
-    ensures mce { IfOk result (λ made. IsMCE (even_task question.now.pair.planner question.now.pair.user
+    ensures mce { IfOk result (λ made. IsMCE
+        (even_task question.now.pair.planner question.now.pair.user
         differences.now question.now.plan.steps) made.told) }
     ensures lines { IfOk result (λ made. concat made.lines ≡ explanation_of (codes "mce")
         (even_task question.now.pair.planner question.now.pair.user
@@ -61,7 +66,8 @@ pub fn explain(
     }
 }
 
-// Whether an explanation can be searched for, where this is the first domain whose words no search serves.
+// Whether an explanation can be searched for, where this is the first domain whose words no search
+// serves.
 fn serve(unserved: Option<usize>, count: usize) -> Result<(), AnswerStop>
     ensures ok { OnOk result (IsServedBy unserved count) }
     ensures err { IfErr result (IsOfService unserved count) }
@@ -81,13 +87,16 @@ fn first(
     question: &Question,
     differences: &List<Difference>,
 ) -> Result<Made, NoMemory>
-    requires all { AreDifferencesOf question.now.pair.planner question.now.pair.user differences.now }
+    requires all { AreDifferencesOf question.now.pair.planner question.now.pair.user
+        differences.now }
     requires few { length differences.now ≤ 16 }
     requires ready { AreReady question.now.pair.planner.words question.now.plan.steps }
     requires short { length question.now.plan.steps ≤ 10000 }
-    requires cheapest { IsCheapest question.now.pair.planner.words (meaning question.now.pair.planner)
+    requires cheapest { IsCheapest question.now.pair.planner.words
+        (meaning question.now.pair.planner)
         question.now.plan.steps }
-    ensures mce { IfOk result (λ made. IsMCE (even_task question.now.pair.planner question.now.pair.user
+    ensures mce { IfOk result (λ made. IsMCE
+        (even_task question.now.pair.planner question.now.pair.user
         differences.now question.now.plan.steps) made.told) }
     ensures lines { IfOk result (λ made. concat made.lines ≡ explanation_of (codes "mce")
         (even_task question.now.pair.planner question.now.pair.user

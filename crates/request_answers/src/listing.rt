@@ -22,7 +22,8 @@ pub fn list(
     differences: &List<Difference>,
     chosen: Places,
 ) -> Result<Made, NoMemory>
-    requires all { AreDifferencesOf question.now.pair.planner question.now.pair.user differences.now }
+    requires all { AreDifferencesOf question.now.pair.planner question.now.pair.user
+        differences.now }
     requires few { length differences.now ≤ 256 }
     ensures told { IfOk result (λ made. made.told ≡ chosen) }
     ensures lines { IfOk result (λ made. concat made.lines ≡ listing request.now

@@ -21,7 +21,8 @@ pub struct Question {
     pub pair: Pair,
     /// The plan, in the same numbers; a request without one has the empty plan.
     pub plan: Plan,
-    /// The place of the first domain whose words no search serves yet, counted from 0 among the contents.
+    /// The place of the first domain whose words no search serves yet, counted from 0 among the
+    /// contents.
     pub unserved: Option<usize>,
 }
 
@@ -32,7 +33,8 @@ pub struct Texts {
     pub plan: Plan,
 }
 
-/// The question of the contents: the planner's domain and problem, the user's, and the plan where the request has one.
+/// The question of the contents: the planner's domain and problem, the user's, and the plan where
+/// the request has one.
 pub fn read_question(
     alloc: Global,
     request: &Request,
@@ -41,7 +43,8 @@ pub fn read_question(
     requires counted { length contents.now ≡ count_of request.now }
     requires short { AreShort (map (λ bytes. bytes.items) contents.now) }
     ensures ok { IfOk result (IsQuestion request.now (map (λ bytes. bytes.items) contents.now)) }
-    ensures err { IfErr result (IsOfQuestion request.now (map (λ bytes. bytes.items) contents.now)) }
+    ensures err { IfErr result (IsOfQuestion request.now
+        (map (λ bytes. bytes.items) contents.now)) }
 {
     match read_texts(alloc, request, contents) {
         Ok(texts) => join_texts(alloc, texts),
@@ -58,7 +61,8 @@ fn read_texts(
     requires counted { length contents.now ≡ count_of request.now }
     requires short { AreShort (map (λ bytes. bytes.items) contents.now) }
     ensures ok { IfOk result (AreTexts request.now (map (λ bytes. bytes.items) contents.now)) }
-    ensures err { IfErr result (IsOfQuestion request.now (map (λ bytes. bytes.items) contents.now)) }
+    ensures err { IfErr result (IsOfQuestion request.now
+        (map (λ bytes. bytes.items) contents.now)) }
 {
     match read_models(alloc, contents) {
         Ok(models) => with_plan(alloc, request, contents, models),
@@ -75,12 +79,14 @@ fn with_plan(
 ) -> Result<Texts, AnswerStop>
     requires counted { length contents.now ≡ count_of request.now }
     requires short { AreShort (map (λ bytes. bytes.items) contents.now) }
-    requires models { AreModels (map (λ bytes. bytes.items) contents.now) models.planner models.user }
+    requires models { AreModels (map (λ bytes. bytes.items) contents.now) models.planner
+        models.user }
     requires few { AreFew models.planner.words (2 ^ 30) }
     requires planner_whole { models.planner.unknown ≡ [] }
     requires user_whole { models.user.unknown ≡ [] }
     ensures ok { IfOk result (AreTexts request.now (map (λ bytes. bytes.items) contents.now)) }
-    ensures err { IfErr result (IsOfPlanText request.now (map (λ bytes. bytes.items) contents.now) models.planner) }
+    ensures err { IfErr result (IsOfPlanText request.now (map (λ bytes. bytes.items) contents.now)
+        models.planner) }
 {
     match read_steps(alloc, request, contents, &models.planner) {
         Ok(plan) => Ok(Texts { models, plan }),

@@ -1,7 +1,8 @@
 ghost use Rattle.std.specs.Prelude.{◌≡◌, IfSome, IfNone};
 ghost use Rattle.std.specs.List.{list_all};
 ghost use Rattle.model_kit.specs.Plain.{has_none, is_plain as is_plain_in};
-ghost use Rattle.request_answers.specs.Questions.{is_served as is_served_by, AreServedWords, AreUnservedWords};
+ghost use Rattle.request_answers.specs.Questions.{is_served as is_served_by, AreServedWords};
+ghost use Rattle.request_answers.specs.Questions.{AreUnservedWords};
 
 use model_kit::{Signature, Vocabulary};
 use mre_base::List;
@@ -9,7 +10,8 @@ use mre_base::List;
 /// How many predicates, and how many actions, a search serves.
 const MOST_SERVED: usize = 64;
 
-/// The place of the first domain whose words no search serves yet, counted from 0 among the contents.
+/// The place of the first domain whose words no search serves yet, counted from 0 among the
+/// contents.
 pub fn unserved_words(planner: &Vocabulary, user: &Vocabulary) -> Option<usize>
     ensures served { IfNone result (AreServedWords planner.now user.now) }
     ensures unserved { IfSome result (AreUnservedWords planner.now user.now) }

@@ -5,11 +5,13 @@ use joint_models::PairFault;
 use mre_base::{List, NoMemory, Text};
 use pddl_text::TextFault;
 
-/// Why a request isn't carried out. A `file` is the place of a content among those of the request, counted from 0. Of two
+/// Why a request isn't carried out. A `file` is the place of a content among those of the request,
+/// counted from 0. Of two
 /// causes the one that stands first here is told.
 #[derive(Debug, Drop)]
 pub enum AnswerStop {
-    /// The content isn't in its grammar; this is its first fault, and each content before it is a text.
+    /// The content isn't in its grammar; this is its first fault, and each content before it is a
+    /// text.
     Misread {
         file: usize,
         fault: TextFault,
@@ -38,7 +40,8 @@ pub enum AnswerStop {
     Unbuilt {
         file: usize,
     },
-    /// In the planner's model these printed steps, one after another, are valid and cost `other`, which is less than the plan's cost.
+    /// In the planner's model these printed steps, one after another, are valid and cost `other`,
+    /// which is less than the plan's cost.
     NotCheapest {
         cost: u64,
         other: u64,

@@ -1,6 +1,7 @@
 ghost use Rattle.std.specs.Prelude.{◌≡◌, ◌<◌, ◌++◌, length, map, IfOk, OnOk};
 ghost use Rattle.std.specs.String.{string_bytes};
-ghost use Rattle.request_answers.specs.Lines.{name_at, line, line_of, lines_of, fault_line, text_line, rule_name, IsOfFile};
+ghost use Rattle.request_answers.specs.Lines.{name_at, line, line_of, lines_of, fault_line};
+ghost use Rattle.request_answers.specs.Lines.{text_line, rule_name, IsOfFile};
 
 use crate::{AnswerStop, PlanFault};
 use mre_base::{List, NoMemory, Text};

@@ -1,8 +1,10 @@
 ghost use Rattle.std.specs.Prelude.{◌≡◌, ◌≤◌, ◌<◌, ◌^◌, [], length, map, All, IfOk, IfErr};
 ghost use Rattle.model_kit.specs.Vocabulary.{IsGroundAction};
 ghost use Rattle.mre_words.specs.Requests.{count_of};
-ghost use Rattle.pddl_read.specs.Texts.{IsDomainText, IsProblemText, IsDomainFault, IsProblemFault, AreFew};
-ghost use Rattle.request_answers.specs.Texts.{AreShort, text_at, has_plan as is_planned, AreModels, IsPlanIn};
+ghost use Rattle.pddl_read.specs.Texts.{IsDomainText, IsProblemText, IsDomainFault, IsProblemFault};
+ghost use Rattle.pddl_read.specs.Texts.{AreFew};
+ghost use Rattle.request_answers.specs.Texts.{AreShort, text_at, has_plan as is_planned, AreModels};
+ghost use Rattle.request_answers.specs.Texts.{IsPlanIn};
 ghost use Rattle.request_answers.specs.Steps.{IsOfText, IsOfModels, IsOfPlanText};
 
 use crate::AnswerStop;
@@ -23,11 +25,13 @@ pub struct Models {
     pub user: Model,
 }
 
-/// The models of the first four contents: the planner's domain and problem, the user's domain and problem.
+/// The models of the first four contents: the planner's domain and problem, the user's domain and
+/// problem.
 pub fn read_models(alloc: Global, contents: &List<Vec<u8>>) -> Result<Models, AnswerStop>
     requires four { 4 ≤ length contents.now }
     requires short { AreShort (map (λ bytes. bytes.items) contents.now) }
-    ensures ok { IfOk result (λ made. AreModels (map (λ bytes. bytes.items) contents.now) made.planner made.user) }
+    ensures ok { IfOk result (λ made. AreModels (map (λ bytes. bytes.items) contents.now)
+        made.planner made.user) }
     ensures few { IfOk result (λ made. AreFew made.planner.words (2 ^ 30)) }
     ensures planner_whole { IfOk result (λ made. made.planner.unknown ≡ []) }
     ensures user_whole { IfOk result (λ made. made.user.unknown ≡ []) }
@@ -55,9 +59,11 @@ pub fn read_models(alloc: Global, contents: &List<Vec<u8>>) -> Result<Models, An
 fn domain_at(alloc: Global, contents: &List<Vec<u8>>, place: usize) -> Result<Domain, AnswerStop>
     requires inside { place < length contents.now }
     requires short { AreShort (map (λ bytes. bytes.items) contents.now) }
-    ensures ok { IfOk result (IsDomainText (text_at (map (λ bytes. bytes.items) contents.now) place)) }
+    ensures ok { IfOk result (IsDomainText
+        (text_at (map (λ bytes. bytes.items) contents.now) place)) }
     ensures few { IfOk result (λ domain. AreFew domain.words (2 ^ 29)) }
-    ensures err { IfErr result (IsOfText place (IsDomainFault (text_at (map (λ bytes. bytes.items) contents.now) place))) }
+    ensures err { IfErr result (IsOfText place
+        (IsDomainFault (text_at (map (λ bytes. bytes.items) contents.now) place))) }
 {
     match read_domain(alloc, content(contents, place)) {
         Ok(domain) => Ok(domain),
@@ -76,9 +82,11 @@ fn model_at(
     requires inside { place < length contents.now }
     requires short { AreShort (map (λ bytes. bytes.items) contents.now) }
     requires few { AreFew domain.now.words (2 ^ 29) }
-    ensures ok { IfOk result (IsProblemText domain.now (text_at (map (λ bytes. bytes.items) contents.now) place)) }
+    ensures ok { IfOk result (IsProblemText domain.now
+        (text_at (map (λ bytes. bytes.items) contents.now) place)) }
     ensures few { IfOk result (λ model. AreFew model.words (2 ^ 30)) }
-    ensures err { IfErr result (IsOfText place (IsProblemFault domain.now (text_at (map (λ bytes. bytes.items) contents.now) place))) }
+    ensures err { IfErr result (IsOfText place
+        (IsProblemFault domain.now (text_at (map (λ bytes. bytes.items) contents.now) place))) }
 {
     match read_problem(alloc, content(contents, place), domain) {
         Ok(model) => Ok(model),
@@ -87,7 +95,8 @@ fn model_at(
     }
 }
 
-/// The plan of a request, in the numbers of the planner's vocabulary; a request without one has the empty plan.
+/// The plan of a request, in the numbers of the planner's vocabulary; a request without one has the
+/// empty plan.
 pub fn read_steps(
     alloc: Global,
     request: &Request,
@@ -97,9 +106,11 @@ pub fn read_steps(
     requires counted { length contents.now ≡ count_of request.now }
     requires short { AreShort (map (λ bytes. bytes.items) contents.now) }
     requires few { AreFew planner.now.words (2 ^ 30) }
-    ensures ok { IfOk result (λ plan. IsPlanIn (is_planned request.now) (map (λ bytes. bytes.items) contents.now) planner.now plan.steps) }
+    ensures ok { IfOk result (λ plan. IsPlanIn (is_planned request.now)
+        (map (λ bytes. bytes.items) contents.now) planner.now plan.steps) }
     ensures fits { IfOk result (λ plan. All (IsGroundAction planner.now.words) plan.steps) }
-    ensures err { IfErr result (IsOfPlanText request.now (map (λ bytes. bytes.items) contents.now) planner.now) }
+    ensures err { IfErr result (IsOfPlanText request.now (map (λ bytes. bytes.items) contents.now)
+        planner.now) }
 {
     if !has_plan(request) {
         return Ok(Plan {

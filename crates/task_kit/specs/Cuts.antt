@@ -1,8 +1,10 @@
--- Cuts of a state: each shows that some action of a certain kind is still to come, and together they bound the cost of every list from the state to the goal.
+-- Cuts of a state: each shows that some action of a certain kind is still to come, and together
+-- they bound the cost of every list from the state to the goal.
 use Rattle.std.specs.Prelude.{ℕ, ◌+◌, ◌≡◌, ◌≤◌, Bool, true, false, ◌&&◌, cond, List, [], ◌∷◌, All}
 use Rattle.std.specs.Ordering.{nat_cmp}
 use Rattle.std.specs.FinSet as set
-use Rattle.task_kit.specs.Tasks.{Numbers, TaskMeaning, price, applies, adds_outside, IsValidFrom, cost_of}
+use Rattle.task_kit.specs.Tasks.{Numbers, TaskMeaning, price, applies, adds_outside, IsValidFrom}
+use Rattle.task_kit.specs.Tasks.{cost_of}
 
 -- a cut: its weight, and a set of atoms that every list to the goal has to leave
 pub record CutMeaning : Type 0 where
@@ -38,7 +40,9 @@ pub record AreLawful (task : TaskMeaning) (state : Numbers) (cuts : List CutMean
   pub each : All (IsCutOf task state) cuts
   pub within : (action : ℕ) → weight_of (counts task action) cuts ≤ price task action
 
--- the law of cuts: every list from the state to the goal costs at least the sum of the weights of lawful cuts
+-- the law of cuts: every list from the state to the goal costs at least the sum of the weights of
+-- lawful cuts
 abbrev pub CutLaw : Type 0
-CutLaw = (task : TaskMeaning) (state : Numbers) (cuts : List CutMeaning) → AreLawful task state cuts →
+CutLaw =
+    (task : TaskMeaning) (state : Numbers) (cuts : List CutMeaning) → AreLawful task state cuts →
     (list : List ℕ) → IsValidFrom task state list → weights cuts ≤ cost_of task list

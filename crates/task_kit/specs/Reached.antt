@@ -1,4 +1,5 @@
--- What a plain search keeps: the states that it reached, the ways to them, and the ways that still wait to be looked at.
+-- What a plain search keeps: the states that it reached, the ways to them, and the ways that still
+-- wait to be looked at.
 use Rattle.std.specs.Prelude.{ℕ, ◌≡◌, ◌≤◌, ◌<◌, List, [], ◌∷◌, ◌++◌, length, Some, slice_get, ◌⊎◌}
 use Rattle.mre_base.specs.Sets.{BitSet}
 use Rattle.task_kit.specs.declared.reached.Way.{Way}
@@ -14,39 +15,57 @@ pub record Reached : Type 0 where
 
 -- what a table has
 abbrev pub reached : Table → Reached
-reached table = record { states = table.states.keys; last = table.last.items; ways = table.ways.items; waiting = table.waiting }
+reached table =
+    record {
+      states = table.states.keys;
+      last = table.last.items;
+      ways = table.ways.items;
+      waiting = table.waiting;
+    }
 
 -- what stood in the list stands at the same place
 abbrev pub StaysIn : {A : Type 0} → List A → List A → Type 0
-StaysIn {A} old new = (place : ℕ) (x : A) → slice_get old place ≡ Some x → slice_get new place ≡ Some x
+StaysIn {A} old new =
+    (place : ℕ) (x : A) → slice_get old place ≡ Some x → slice_get new place ≡ Some x
 
 -- each state has a last way, which leads to it, and each way leads to a state
 pub record IsIndexed (r : Reached) : Type 0 where
   pub sized : length r.last ≡ length r.states
-  pub held : (place at : ℕ) → slice_get r.last place ≡ Some at → (way : Way) × (slice_get r.ways at ≡ Some way) × (way.state ≡ place)
+  pub held : (place at : ℕ) → slice_get r.last place ≡ Some at
+      → (way : Way) × (slice_get r.ways at ≡ Some way) × (way.state ≡ place)
   pub stated : (at : ℕ) (way : Way) → slice_get r.ways at ≡ Some way → way.state < length r.states
 
 -- a way to the state is there that costs no more than this
 abbrev pub HasWay : Reached → BitSet → ℕ → Type 0
 HasWay r state cost =
-    (at : ℕ) × (way : Way) × (slice_get r.ways at ≡ Some way) × (slice_get r.states way.state ≡ Some state) × (way.cost ≤ cost)
+    (at : ℕ) × (way : Way) × (slice_get r.ways at ≡ Some way)
+    × (slice_get r.states way.state ≡ Some state) × (way.cost ≤ cost)
 
 -- a way to the same state is there that costs less
 abbrev pub IsBeaten : Reached → Way → Type 0
-IsBeaten r way = (at : ℕ) × (other : Way) × (slice_get r.ways at ≡ Some other) × (other.state ≡ way.state) × (other.cost < way.cost)
+IsBeaten r way =
+    (at : ℕ) × (other : Way) × (slice_get r.ways at ≡ Some other) × (other.state ≡ way.state)
+    × (other.cost < way.cost)
 
 -- nothing was reached yet
 abbrev pub nothing : Reached
 nothing = record { states = []; last = []; ways = []; waiting = [] }
 
 -- a way to the state was added, and waits
-pub record Adds (old : Reached) (state : BitSet) (cost parent action : ℕ) (new : Reached) : Type 0 where
+pub record Adds (old : Reached) (state : BitSet) (cost parent action : ℕ)
+    (new : Reached) : Type 0 where
   pub place : ℕ
   pub here : slice_get new.states place ≡ Some state
   pub states : StaysIn old.states new.states
-  pub ways : new.ways ≡ old.ways ++ (record { state = place; cost = cost; parent = parent; action = action }) ∷ []
+  pub ways : new.ways ≡ old.ways ++ (record {
+    state = place;
+    cost = cost;
+    parent = parent;
+    action = action;
+  }) ∷ []
   pub waiting : Puts old.waiting (length old.ways) new.waiting
 
 -- a way to the state was added, or one that costs no more was there and nothing has changed
 abbrev pub Notes : Reached → BitSet → ℕ → ℕ → ℕ → Reached → Type 0
-Notes old state cost parent action new = Adds old state cost parent action new ⊎ ((new ≡ old) × HasWay old state cost)
+Notes old state cost parent action new =
+    Adds old state cost parent action new ⊎ ((new ≡ old) × HasWay old state cost)

@@ -1,6 +1,9 @@
--- Tasks on numbers, after STRIPS. Atoms and ground actions are numbers from 0 on, and a state is the set of its true atoms.
--- In a task with n atoms the number n stands for whatever can never be true: it may be asked for, and no state has it.
-use Rattle.std.specs.Prelude.{ℕ, ◌+◌, ◌^◌, ◌≡◌, ◌<◌, Bool, true, false, ◌&&◌, not, is_some, List, [], ◌∷◌, length, Option, None, Some, unwrap_or, slice_get}
+-- Tasks on numbers, after STRIPS. Atoms and ground actions are numbers from 0 on, and a state is
+-- the set of its true atoms.
+-- In a task with n atoms the number n stands for whatever can never be true: it may be asked for,
+-- and no state has it.
+use Rattle.std.specs.Prelude.{ℕ, ◌+◌, ◌^◌, ◌≡◌, ◌<◌, Bool, true, false, ◌&&◌, not, is_some, List}
+use Rattle.std.specs.Prelude.{[], ◌∷◌, length, Option, None, Some, unwrap_or, slice_get}
 use Rattle.std.specs.Ordering.{nat_cmp}
 use Rattle.std.specs.FinSet as set
 use Rattle.mre_base.specs.Sets.{BitSet}
@@ -20,7 +23,8 @@ pub record ActionMeaning : Type 0 where
   pub del : set.FinSet nat_cmp
   pub cost : Option ℕ
 
--- a task: how many atoms there are, the first state, the atoms that are wanted in the end, and the actions
+-- a task: how many atoms there are, the first state, the atoms that are wanted in the end, and the
+-- actions
 pub record TaskMeaning : Type 0 where
   pub atoms : ℕ
   pub start : set.FinSet nat_cmp
@@ -45,11 +49,13 @@ price task action = unwrap_or (cost_at task action) 0
 
 -- the action has a cost, and its preconditions are in the state
 abbrev pub applies : TaskMeaning → ℕ → Numbers → Bool
-applies task action state = is_some (cost_at task action) && set.is_subset (action_at task action).pre state
+applies task action state =
+    is_some (cost_at task action) && set.is_subset (action_at task action).pre state
 
 -- the successor: the state without the deletes, and then with the adds
 unfoldable pub after : TaskMeaning → ℕ → Numbers → Numbers
-after task action state = set.union (set.difference state (action_at task action).del) (action_at task action).add
+after task action state =
+    set.union (set.difference state (action_at task action).del) (action_at task action).add
 
 -- the action adds an atom that isn't in the set
 abbrev pub adds_outside : TaskMeaning → ℕ → Numbers → Bool
@@ -58,7 +64,8 @@ adds_outside task action among = not (set.is_subset (action_at task action).add 
 -- the actions apply one after another from the state on, and the goal atoms are in the last state
 abbrev pub IsValidFrom : TaskMeaning → Numbers → List ℕ → Type 0
 IsValidFrom task state [] = set.is_subset task.goal state ≡ true
-IsValidFrom task state (action ∷ list) = (applies task action state ≡ true) × IsValidFrom task (after task action state) list
+IsValidFrom task state (action ∷ list) =
+    (applies task action state ≡ true) × IsValidFrom task (after task action state) list
 
 -- the list is a plan of the task
 abbrev pub IsValid : TaskMeaning → List ℕ → Type 0
@@ -80,7 +87,8 @@ pub record IsAction (atoms : ℕ) (action : ActionMeaning) : Type 0 where
   pub del : AllBelow (atoms + 1) action.del
   pub cost : unwrap_or action.cost 0 < 2 ^ 32
 
--- the facts of each task: its numbers are in their ranges, and there is room for one number more than it has atoms
+-- the facts of each task: its numbers are in their ranges, and there is room for one number more
+-- than it has atoms
 pub record IsTask (task : TaskMeaning) : Type 0 where
   pub few_atoms : task.atoms + 1 < 2 ^ 32
   pub few_actions : length task.actions < 2 ^ 32
@@ -88,7 +96,8 @@ pub record IsTask (task : TaskMeaning) : Type 0 where
   pub goal : AllBelow (task.atoms + 1) task.goal
   pub each : (action : ℕ) → IsAction task.atoms (action_at task action)
 
--- a set of numbers, as wide as each bit set of the task: there is a place for the number that is never true
+-- a set of numbers, as wide as each bit set of the task: there is a place for the number that is
+-- never true
 abbrev pub as_bits : TaskMeaning → Numbers → BitSet
 as_bits task numbers = record { width = task.atoms + 1; members = numbers }
 
@@ -96,7 +105,8 @@ as_bits task numbers = record { width = task.atoms + 1; members = numbers }
 pub record IsLeastMissing (wanted state : Numbers) (atom : ℕ) : Type 0 where
   pub is_wanted : set.contains wanted atom ≡ true
   pub is_missing : set.contains state atom ≡ false
-  pub is_least : (lower : ℕ) → lower < atom → set.contains wanted lower ≡ true → set.contains state lower ≡ true
+  pub is_least : (lower : ℕ) → lower < atom → set.contains wanted lower ≡ true
+      → set.contains state lower ≡ true
 
 -- the least of the wanted atoms that the state lacks, or none where it has them all
 abbrev pub IsFirstLack : Numbers → Numbers → Option ℕ → Type 0

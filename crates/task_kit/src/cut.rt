@@ -1,6 +1,7 @@
 use mre_base::List;
 
-/// A cut of a state of a task with `n` atoms: a weight, and the set of all numbers below `n` but the listed ones, which every list from
+/// A cut of a state of a task with `n` atoms: a weight, and the set of all numbers below `n` but
+/// the listed ones, which every list from
 /// the state to the goal has to leave.
 #[derive(Debug, Drop)]
 pub struct Cut {

@@ -6,7 +6,8 @@ use crate::price::price_of;
 use crate::view::TaskView;
 use mre_base::Bits;
 
-/// What judging a list of actions on a task tells. Steps count from 1, and the atom is the least that is missing there.
+/// What judging a list of actions on a task tells. Steps count from 1, and the atom is the least
+/// that is missing there.
 #[derive(Clone, Copy, Debug, PartialEq, Eq)]
 pub enum Judgement {
     /// The actions apply one after another and lead to the goal, at this cost.
@@ -47,7 +48,8 @@ fn fault_at<T: TaskView>(task: &T, action: u32, state: &Bits, step: u32) -> Opti
     }
 }
 
-/// Judges a list of actions: whether they apply one after another from the start and lead to the goal. The two sets are for the states
+/// Judges a list of actions: whether they apply one after another from the start and lead to the
+/// goal. The two sets are for the states
 /// on the way.
 pub fn judge<T: TaskView>(task: &T, plan: &[u32], one: &mut Bits, two: &mut Bits) -> Judgement
     requires listed { All (λ action. action < length (T.seen task.now).actions) plan.now }

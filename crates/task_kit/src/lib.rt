@@ -1,4 +1,5 @@
-//! Tasks on numbers: their steps, the judging of lists of actions, cuts and bounds, and a plain search below a cost.
+//! Tasks on numbers: their steps, the judging of lists of actions, cuts and bounds, and a plain
+//! search below a cost.
 #![tactic(auto)]
 
 mod action;

@@ -1,5 +1,6 @@
 //! The states that a search has reached.
-ghost use Rattle.std.specs.Prelude.{ℕ, ◌≡◌, ◌<◌, ◌++◌, ◌∷◌, [], Some, length, slice_get, Contains, IsTrue, IfSome, IfNone, IfOk, OnOk};
+ghost use Rattle.std.specs.Prelude.{ℕ, ◌≡◌, ◌<◌, ◌++◌, ◌∷◌, [], Some, length, slice_get, Contains};
+ghost use Rattle.std.specs.Prelude.{IsTrue, IfSome, IfNone, IfOk, OnOk};
 ghost use Rattle.task_kit.specs.declared.reached.Way.{Way};
 ghost use Rattle.task_kit.specs.Queues.{Waits, Puts, Takes};
 ghost use Rattle.task_kit.specs.Reached.{reached, nothing, IsIndexed, IsBeaten, Adds, Notes};
@@ -9,7 +10,8 @@ use indexmap::IndexSet;
 use mre_base::{Bits, NoMemory};
 use std::alloc::Global;
 
-/// One way from the start to a state: the place of the state, what the way costs, and the place of the way without its last step, with
+/// One way from the start to a state: the place of the state, what the way costs, and the place of
+/// the way without its last step, with
 /// the action of that step. The first way has no step.
 #[derive(Clone, Copy)]
 pub struct Way {
@@ -19,7 +21,8 @@ pub struct Way {
     pub action: u32,
 }
 
-/// The states in the order in which they were reached, with the last way to each, which is the cheapest so far.
+/// The states in the order in which they were reached, with the last way to each, which is the
+/// cheapest so far.
 pub struct Table {
     alloc: Global,
     states: IndexSet<Bits>,
@@ -58,7 +61,8 @@ fn insert(states: &mut IndexSet<Bits>, state: Bits) -> Result<(), NoMemory>
 // What the last way to the state at a place costs.
 fn last_cost(last: &Vec<usize>, ways: &Vec<Way>, place: usize) -> u64
     requires place { place < length last.now.items }
-    requires held { (at : ℕ) → slice_get last.now.items place ≡ Some at → at < length ways.now.items }
+    requires held { (at : ℕ) → slice_get last.now.items place ≡ Some at
+        → at < length ways.now.items }
     ensures { (at : ℕ) (way : Way) → slice_get last.now.items place ≡ Some at →
         slice_get ways.now.items at ≡ Some way → result ≡ way.cost }
 {

@@ -1,8 +1,10 @@
-ghost use Rattle.std.specs.Prelude.{ℕ, ◌≡◌, ◌≢◌, ◌+◌, ◌^◌, ◌<◌, ◌≤◌, Some, length, slice_get, reverse, IfOk, OnOk};
+ghost use Rattle.std.specs.Prelude.{ℕ, ◌≡◌, ◌≢◌, ◌+◌, ◌^◌, ◌<◌, ◌≤◌, Some, length, slice_get};
+ghost use Rattle.std.specs.Prelude.{reverse, IfOk, OnOk};
 ghost use Rattle.task_kit.specs.declared.reached.Way.{Way};
 ghost use Rattle.task_kit.specs.Bounds.{IsCheapestBelow};
 ghost use Rattle.task_kit.specs.Reached.{reached};
-ghost use Rattle.task_kit.specs.Searching.{IsTrail, Grows, IsReached, AreSettled, AreSettledBut, IsFound, IsWayBack};
+ghost use Rattle.task_kit.specs.Searching.{IsTrail, Grows, IsReached, AreSettled, AreSettledBut};
+ghost use Rattle.task_kit.specs.Searching.{IsFound, IsWayBack};
 
 use crate::price::price_of;
 use crate::reached::{Table, Way};
@@ -48,7 +50,8 @@ fn reach<T: TaskView>(
     requires listed { action < length (T.seen task.now).actions }
     requires trail { IsTrail (T.seen task.now) (reached table.old) }
     requires way { slice_get (reached table.old).ways look.now.at ≡ Some look.now.way }
-    requires from { slice_get (reached table.old).states look.now.way.state ≡ Some scratch.old.from }
+    requires from { slice_get (reached table.old).states look.now.way.state
+        ≡ Some scratch.old.from }
     requires from_width { scratch.old.from.width ≡ (T.seen task.now).atoms + 1 }
     requires into_width { scratch.old.into.width ≡ (T.seen task.now).atoms + 1 }
     requires cheap { look.now.way.cost < look.now.bound }
@@ -81,7 +84,8 @@ fn expand<T: TaskView>(
 ) -> Result<(), NoMemory>
     requires trail { IsTrail (T.seen task.now) (reached table.old) }
     requires way { slice_get (reached table.old).ways look.now.at ≡ Some look.now.way }
-    requires from { slice_get (reached table.old).states look.now.way.state ≡ Some scratch.old.from }
+    requires from { slice_get (reached table.old).states look.now.way.state
+        ≡ Some scratch.old.from }
     requires from_width { scratch.old.from.width ≡ (T.seen task.now).atoms + 1 }
     requires into_width { scratch.old.into.width ≡ (T.seen task.now).atoms + 1 }
     requires cheap { look.now.way.cost < look.now.bound }
@@ -99,7 +103,8 @@ fn expand<T: TaskView>(
     Ok(())
 }
 
-// Looks at a way that waited no more: sets a lower bound where it leads to the goal, and else notes the successors of its state.
+// Looks at a way that waited no more: sets a lower bound where it leads to the goal, and else notes
+// the successors of its state.
 fn look_at<T: TaskView>(
     task: &T,
     table: &mut Table,
@@ -114,7 +119,8 @@ fn look_at<T: TaskView>(
     requires into_width { scratch.old.into.width ≡ (T.seen task.now).atoms + 1 }
     requires low { found.old.bound < 2 ^ 46 }
     ensures trail { OnOk result (IsTrail (T.seen task.now) (reached table.new)) }
-    ensures settled { OnOk result (AreSettled (T.seen task.now) found.new.bound (reached table.new)) }
+    ensures settled { OnOk result (AreSettled (T.seen task.now) found.new.bound
+        (reached table.new)) }
     ensures grows { OnOk result (Grows (reached table.old) (reached table.new)) }
     ensures found { (first : ℕ) →
         IsFound (T.seen task.now) (reached table.old) first found.old.bound found.old.foil →
@@ -179,7 +185,8 @@ fn listed(alloc: Global, from: &Vec<u32>) -> Result<List<u32>, NoMemory>
     Ok(list)
 }
 
-/// The cheapest valid list, where one costs less than `k`, and none where no valid list of any length does.
+/// The cheapest valid list, where one costs less than `k`, and none where no valid list of any
+/// length does.
 /// States are looked at in the order of their costs, each with its cheapest way.
 pub fn cheapest_below<T: TaskView>(
     alloc: Global,

@@ -7,7 +7,8 @@ use crate::atoms::{has_all, least_missing, put_all, take_all};
 use crate::view::TaskView;
 use mre_base::{Bits, List};
 
-/// A task on numbers that keeps its actions as lists. The start and the adds are below `atoms`; the goal, the preconditions and the
+/// A task on numbers that keeps its actions as lists. The start and the adds are below `atoms`; the
+/// goal, the preconditions and the
 /// deletes are at most `atoms`, and so is each set one number wider.
 #[derive(Debug)]
 pub struct Task {

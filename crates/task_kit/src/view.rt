@@ -1,15 +1,18 @@
 ghost use Rattle.std.specs.Prelude.{◌≡◌, ◌+◌, ◌<◌, length};
-ghost use Rattle.task_kit.specs.Tasks.{TaskMeaning, IsTask, as_bits, action_at, cost_at, applies, after, adds_outside, IsFirstLack};
+ghost use Rattle.task_kit.specs.Tasks.{TaskMeaning, IsTask, as_bits, action_at, cost_at, applies};
+ghost use Rattle.task_kit.specs.Tasks.{after, adds_outside, IsFirstLack};
 
 use mre_base::Bits;
 
-/// A task on numbers, however it is kept. Its actions have the numbers from 0 on, and each set of atoms has a place more than there are
+/// A task on numbers, however it is kept. Its actions have the numbers from 0 on, and each set of
+/// atoms has a place more than there are
 /// atoms. No call takes memory.
 pub trait TaskView {
     /// What the task means.
     ghost seen: { Self → TaskMeaning };
 
-    /// How many atoms there are. Their numbers are those below it; the number itself stands for what can never be true.
+    /// How many atoms there are. Their numbers are those below it; the number itself stands for
+    /// what can never be true.
     fn atoms(&self) -> u32
         ensures atoms { result ≡ (seen self.now).atoms }
         ensures task { IsTask (seen self.now) };
@@ -43,7 +46,8 @@ pub trait TaskView {
         requires width { state.now.width ≡ (seen self.now).atoms + 1 }
         ensures { IsFirstLack (action_at (seen self.now) action).pre state.now.members result };
 
-    /// Writes the successor of a state by an action: the state without the deletes, and then with the adds.
+    /// Writes the successor of a state by an action: the state without the deletes, and then with
+    /// the adds.
     fn next_into(&self, action: u32, state: &Bits, into: &mut Bits)
         requires listed { action < length (seen self.now).actions }
         requires width { state.now.width ≡ (seen self.now).atoms + 1 }

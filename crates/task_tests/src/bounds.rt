@@ -6,7 +6,8 @@ use std::process::Abort;
 use std::test::Fail;
 use task_kit::Task;
 
-// Atoms: 0 (g), 1 (p), 2 (r), 3 (s). Actions: 0 (hop), 1 (jump), 2 (open), 3 (walk). The cheapest list costs 2.
+// Atoms: 0 (g), 1 (p), 2 (r), 3 (s). Actions: 0 (hop), 1 (jump), 2 (open), 3 (walk). The cheapest
+// list costs 2.
 fn o_task(alloc: Global) -> Result<Task, Fail> {
     let hop = action(&[3], &[0], &[], Some(3));
     let jump = action(&[3], &[0], &[], Some(3));

@@ -1,7 +1,9 @@
 //! Whether the states of a bound proof are as its checker wants them.
-ghost use Rattle.std.specs.Prelude.{ℕ, ◌≡◌, ◌+◌, ◌^◌, ◌<◌, true, Some, length, slice_get, All, IsTrue};
+ghost use Rattle.std.specs.Prelude.{ℕ, ◌≡◌, ◌+◌, ◌^◌, ◌<◌, true, Some, length, slice_get, All};
+ghost use Rattle.std.specs.Prelude.{IsTrue};
 ghost use Rattle.bound_cert.specs.declared.proof.BoundState.{BoundState};
-ghost use Rattle.bound_cert.specs.Formed.{is_listed_before, IsAscending, IsInRange, cuts_of, IsFormed};
+ghost use Rattle.bound_cert.specs.Formed.{is_listed_before, IsAscending, IsInRange, cuts_of};
+ghost use Rattle.bound_cert.specs.Formed.{IsFormed};
 ghost use Rattle.bound_cert.specs.Lines.{lines};
 
 use bound_cert::{BoundState, How};
@@ -24,7 +26,8 @@ fn is_last(states: &List<BoundState>, later: usize) -> bool
     requires wide { (place other : ℕ) (s t : BoundState) → slice_get states.now place ≡ Some s →
         slice_get states.now other ≡ Some t → s.state.width ≡ t.state.width }
     ensures { IsTrue result → (place : ℕ) (s t : BoundState) → slice_get states.now place ≡ Some s →
-        slice_get states.now later ≡ Some t → place < later → is_listed_before s.state t.state ≡ true }
+        slice_get states.now later ≡ Some t → place < later
+        → is_listed_before s.state t.state ≡ true }
 {
     for place in 0..later {
         if !states

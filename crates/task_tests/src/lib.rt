@@ -1,4 +1,5 @@
-//! Tasks on numbers: judged and searched, their cuts, and what is said of bound proofs, on tables of small ones.
+//! Tasks on numbers: judged and searched, their cuts, and what is said of bound proofs, on tables
+//! of small ones.
 #![tactic(auto)]
 
 #[cfg(test)]

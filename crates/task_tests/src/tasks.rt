@@ -19,7 +19,8 @@ fn v_task(alloc: Global, start: &[u32], needs: &[u32], cost: u32) -> Result<Task
     Ok(task_of(alloc, 3, start, &[0], &[jump, walk])?)
 }
 
-// O with what open needs and what hop and jump cost. Atoms: 0 (g), 1 (p), 2 (r), 3 (s). Actions: 0 (hop), 1 (jump), 2 (open), 3 (walk).
+// O with what open needs and what hop and jump cost. Atoms: 0 (g), 1 (p), 2 (r), 3 (s). Actions: 0
+// (hop), 1 (jump), 2 (open), 3 (walk).
 fn o_task(alloc: Global, start: &[u32], needs: &[u32], hop: u32, jump: u32) -> Result<Task, Fail> {
     let hop = action(&[3], &[0], &[], Some(hop));
     let jump = action(&[3], &[0], &[], Some(jump));
@@ -28,7 +29,8 @@ fn o_task(alloc: Global, start: &[u32], needs: &[u32], hop: u32, jump: u32) -> R
     Ok(task_of(alloc, 4, start, &[0], &[hop, jump, open, walk])?)
 }
 
-// N with what the two steps of go cost. Atoms: 0 (at a), 1 (at b), 2 (at c), 3 (link a b), 4 (link b c).
+// N with what the two steps of go cost. Atoms: 0 (at a), 1 (at b), 2 (at c), 3 (link a b), 4 (link
+// b c).
 // Actions: 0 (go a b), 1 (go b a), which has no cost, 2 (go b c), 3 (ride).
 fn n_task(alloc: Global, first: u32, second: u32) -> Result<Task, Fail> {
     let there = action(&[0, 3], &[1], &[0], Some(first));
@@ -96,7 +98,8 @@ fn assert_none(rt: &impl Abort, alloc: Global, task: &Task, k: u64) -> Result<()
     Ok(())
 }
 
-// The cheapest list costs what is wanted: a search below one more and one below the greatest bound find it, and a search below the cost
+// The cheapest list costs what is wanted: a search below one more and one below the greatest bound
+// find it, and a search below the cost
 // finds none.
 fn assert_cheapest(
     rt: &impl Abort,

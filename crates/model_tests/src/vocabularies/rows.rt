@@ -1,7 +1,9 @@
 //! Three models as rows of names: two ways to one goal, a graph of roads, and a delivery by truck.
 
-/// The lists of a model. Entries have a comma between them, and schemas a semicolon. A type or an object stands before its type, and a
-/// predicate, a function or an action before the types of its parameters. A schema is what it needs, adds, deletes and costs.
+/// The lists of a model. Entries have a comma between them, and schemas a semicolon. A type or an
+/// object stands before its type, and a
+/// predicate, a function or an action before the types of its parameters. A schema is what it
+/// needs, adds, deletes and costs.
 #[derive(Clone, Copy)]
 pub struct Rows {
     pub types: &'static str,
@@ -30,7 +32,8 @@ pub const WAYS: Rows = Rows {
     unknown: "",
 };
 
-/// From a over b to c. Going costs what the road costs, and riding from a to c costs 10. (link ..) is declared before (at ..).
+/// From a over b to c. Going costs what the road costs, and riding from a to c costs 10. (link ..)
+/// is declared before (at ..).
 pub const ROADS: Rows = Rows {
     types: "object object",
     objects: "a object, b object, c object",
@@ -44,7 +47,8 @@ pub const ROADS: Rows = Rows {
     unknown: "",
 };
 
-/// A parcel is to come from the hub to the mill by truck. Types stand before and behind the types above them.
+/// A parcel is to come from the hub to the mill by truck. Types stand before and behind the types
+/// above them.
 pub const DELIVERY: Rows = Rows {
     types: "object object, truck thing, thing object, parcel thing, depot place, place object, shop place",
     objects: "hub depot, t1 truck, k1 parcel, mill shop, north shop",

@@ -17,7 +17,8 @@ fn too_long(alloc: Global) -> Result<String, Fail> {
     Ok(text)
 }
 
-/// A call over these files ends with status 7 and prints nothing, and behind it this stands on the sink of faults.
+/// A call over these files ends with status 7 and prints nothing, and behind it this stands on the
+/// sink of faults.
 fn assert_past_limit(
     rt: &impl Abort,
     alloc: Global,
