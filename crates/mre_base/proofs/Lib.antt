@@ -1,10 +1,14 @@
 pub mod BitWords
 pub mod ListBefore
 pub mod ListOrder
+pub mod Listed
 pub mod Loops
+pub mod OneList
+pub mod Options
 pub mod PlaceWords
 pub mod SameNodes
 pub mod SetsBelow
+pub mod Tests
 pub mod WordBits
 pub mod WordCounts
 pub mod WordLists

@@ -1,6 +1,7 @@
 -- The order of ascending lists, where both lists are the numbers of a range that pass a test: the lowest number at which the tests differ decides.
-use Rattle.std.proofs.Common.{◌≡◌, ◌↔◌, ℕ, zero, suc, ◌+◌, ◌-◌, ◌<◌, ◌≤◌, Bool, true, false, not, ◌||◌, List, [], ◌∷◌, ◌++◌, length, filter, nat_eq, if◌then◌else◌, refl, sym, ap, ◌∙◌, arith}
+use Rattle.std.proofs.Common.{◌≡◌, ◌↔◌, ℕ, zero, suc, ◌+◌, ◌-◌, ◌<◌, ◌≤◌, Bool, true, false, not, ◌||◌, List, [], ◌∷◌, ◌++◌, length, filter, nat_eq, nat_lt, cond, if◌then◌else◌, refl, sym, ap, ◌∙◌, arith}
 use Rattle.std.proofs.lemmas.Bool.{eq-eqb, eqb-true, eqb-false, ne_eqb, lt-ltb, le-ltb, true≢false, false≢true}
+use Rattle.std.proofs.lemmas.Bool.Decides.{nat_tests}
 use Rattle.std.proofs.lemmas.List.Elements.{filter-append}
 use Rattle.std.specs.List.{range_with_len, list_any}
 use Rattle.mre_base.specs.Before.{is_earlier_list}
@@ -37,6 +38,22 @@ is_earlier_list-front (x ∷ xs) ys zs = rw (eq-eqb x x refl) (is_earlier_list-f
 pub is_earlier_list-itself : (xs : List ℕ) → is_earlier_list xs xs ≡ false
 is_earlier_list-itself [] = refl
 is_earlier_list-itself (x ∷ xs) = rw (eq-eqb x x refl) (is_earlier_list-itself xs)
+
+-- by a number, and then by a test where the numbers are equal
+abbrev pub by_number : ℕ → ℕ → Bool → Bool
+by_number n m r = cond (nat_eq n m) r (nat_lt n m)
+
+pub number_trans : (n m k : ℕ) (r s t : Bool) → (r ≡ true → s ≡ true → t ≡ true) → by_number n m r ≡ true → by_number m k s ≡ true → by_number n k t ≡ true
+number_trans n m k r s t less h i = grind (arith, nat_tests)
+
+pub earlier_trans : (xs ys zs : List ℕ) → is_earlier_list xs ys ≡ true → is_earlier_list ys zs ≡ true → is_earlier_list xs zs ≡ true
+earlier_trans [] [] zs h i = i
+earlier_trans [] (y ∷ ys) [] h i = absurd (false≢true i)
+earlier_trans [] (y ∷ ys) (z ∷ zs) h i = refl
+earlier_trans (x ∷ xs) [] zs h i = absurd (false≢true h)
+earlier_trans (x ∷ xs) (y ∷ ys) [] h i = absurd (false≢true i)
+earlier_trans (x ∷ xs) (y ∷ ys) (z ∷ zs) h i =
+    number_trans x y z (is_earlier_list xs ys) (is_earlier_list ys zs) (is_earlier_list xs zs) (earlier_trans xs ys zs) h i
 
 -- a smaller number against what passes of a later range
 number_first : (q : ℕ → Bool) (i : ℕ) (xs : List ℕ) (s n : ℕ) → i < s → is_earlier_list (i ∷ xs) (filter q (range_with_len s n)) ≡ list_any q (range_with_len s n)

@@ -1,7 +1,7 @@
 -- What stands in a set that is given by a test, and what a change of the test does to it.
-use Rattle.std.proofs.Common.{◌≡◌, ℕ, zero, suc, ◌<◌, Bool, true, false, not, ◌||◌, ◌&&◌, nat_eq, nat_lt, if◌then◌else◌, refl, sym, ap, ◌∙◌, arith, inl, inr}
-use Rattle.std.proofs.lemmas.Bool.{eqb-true, eq-eqb, ne_eqb, lt-ltb, le-ltb, ltb-true, cases_order, and_parts}
-use Rattle.std.specs.Ordering.{nat_cmp}
+use Rattle.std.proofs.Common.{◌≡◌, ℕ, zero, suc, ◌<◌, Bool, true, false, not, ◌||◌, ◌&&◌, nat_eq, nat_lt, if◌then◌else◌, refl, sym, ap, ◌∙◌, arith, ◌⊎◌, ⊎_elim, inl, inr}
+use Rattle.std.proofs.lemmas.Bool.{or_left, or_right, or_cases, eqb-true, eq-eqb, ne_eqb, lt-ltb, le-ltb, ltb-true, cases_order, and_parts}
+use Rattle.std.specs.Ordering.{nat_cmp, eq_by_cmp}
 use Rattle.std.specs.Cmp.{nat_cmp_total, unsigned_tied}
 use Rattle.std.specs.FinSet as set
 use Rattle.mre_base.specs.Sets.{set_below}
@@ -13,6 +13,20 @@ contains-insert_nat s k q = set.contains-insert nat_cmp_total s k q ∙ ap (λ b
 
 pub contains-remove_nat : (s : set.FinSet nat_cmp) (k q : ℕ) → set.contains (set.remove s k) q ≡ (not (nat_eq q k) && set.contains s q)
 contains-remove_nat s k q = set.contains-remove nat_cmp_total s k q ∙ ap (λ b. not b && set.contains s q) (unsigned_tied q k)
+
+pub nat_tie : (q k : ℕ) → eq_by_cmp nat_cmp q k ≡ nat_eq q k
+nat_tie q k = unsigned_tied q k
+
+pub has_inserted : (s : set.FinSet nat_cmp) (k : ℕ) → set.contains (set.insert s k) k ≡ true
+has_inserted s k = contains-insert_nat s k k ∙ or_left (nat_eq k k) (set.contains s k) (eq-eqb k k refl)
+
+pub has_before : (s : set.FinSet nat_cmp) (k q : ℕ) → set.contains s q ≡ true → set.contains (set.insert s k) q ≡ true
+has_before s k q there = contains-insert_nat s k q ∙ or_right (nat_eq q k) (set.contains s q) there
+
+pub insert_cases : (s : set.FinSet nat_cmp) (k q : ℕ) → set.contains (set.insert s k) q ≡ true → (q ≡ k) ⊎ (set.contains s q ≡ true)
+insert_cases s k q there =
+    ⊎_elim (λ is. inl (eqb-true q k is)) (λ was. inr was)
+    (or_cases (nat_eq q k) (set.contains s q) (sym (contains-insert_nat s k q) ∙ there))
 
 -- ---- a set that is given by a test
 or_lt : (q n : ℕ) (b : Bool) → (nat_eq q n || nat_lt q n) ≡ nat_lt q (suc n)
