@@ -1,4 +1,4 @@
--- In words of which none breaks a rule of names the bodies of the actions fit their parameters.
+-- In well-named words the bodies of the actions fit their parameters.
 use Rattle.std.proofs.Common.{◌≡◌, ℕ, ◌&&◌, Bool, true, false, Some, None, Option, List, [], ◌∷◌, ◌++◌, map, refl, sym, ap, subst, ◌∙◌, append_assoc}
 use Rattle.std.specs.Prelude.{codes, All, IsTrue}
 use Rattle.std.specs.List.{list_all}
@@ -46,7 +46,7 @@ saying_list : (known : Declared) (due : Says) (w : Word) (r : Role) → w.role �
 saying_list known due w (role.Head s) at is = ap (λ q. due_types known (record w { role = q })) at
 saying_list known due w _ at is = absurd (true≢false (sym is))
 
--- the types that are due behind the head of an atom, and behind the function of a cost
+-- the types that the terms of an atom, and of the function of a cost, must have
 pub atom_types : (known : Declared) (due : Says) (w : Word) → is_saying due w.role ≡ true → due_types known w ≡ first_of known.predicates w.text
 atom_types known due w is = saying_list known due w w.role refl is
 

@@ -1,4 +1,4 @@
--- What words declare is no more than the words.
+-- Words declare no more things than there are words.
 use Rattle.std.proofs.Common.{◌≡◌, ℕ, ◌≤◌, suc, List, [], ◌∷◌, length, ap, ◌∙◌, arith}
 use Rattle.std.specs.Prelude.{not, filter}
 use Rattle.std.proofs.lemmas.List.{length-map}

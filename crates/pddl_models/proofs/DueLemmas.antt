@@ -1,4 +1,4 @@
--- In words of which none breaks a rule of names each head is declared, and the terms behind it are of the types that are due.
+-- In well-named words each head is declared, and its terms have the types that they must have.
 use Rattle.std.proofs.Common.{◌≡◌, ℕ, ◌+◌, suc, Bool, true, false, cond, Some, None, Option, List, [], ◌∷◌, ◌++◌, length, refl, sym, ap, subst, ◌∙◌, arith, zero-add, add-zero, append_assoc}
 use Rattle.std.specs.Prelude.{◌==◌, not, slice_get, reverse, take_while, find}
 use Rattle.std.specs.Option.{option_and_then, option_map_or}
@@ -94,7 +94,7 @@ round_here before w is =
     ap (λ ws. reverse (take_while no_action ws)) (reverse_more before w)
     ∙ ap reverse (take_while-cons no_action w (reverse before) ∙ ap (λ b. cond (not b) (w ∷ take_while no_action (reverse before)) []) is)
 
--- ---- the terms behind a head, one by one
+-- ---- the terms of a head, one by one
 
 fits_by : (types : List Typed) (o due : Option Text) (d : Text) → due ≡ Some d → is_none o ≡ false → is_misfit types o due ≡ false → option_map_or (λ (type : Text). is_below types type d) o false ≡ true
 fits_by types None due d is some fit = absurd (true≢false some)
@@ -129,7 +129,7 @@ module _ (base : Declared) (said : List Word) (named : IsNamed base said) where
   wrong_type before w rest split = ap (λ ws. is_wrong_type (declared base ws) before w rest) split ∙ named before w rest split rule.WrongType
 
   module _ (h : Word) (dues : List Text) (types : due_types known h ≡ Some dues) (behind : List Word) where
-    -- so many terms have been passed behind the head
+    -- that many terms of the head have been passed
     record Walks (before rest : List Word) (n : ℕ) : Type 0 where
       split : said ≡ before ++ rest
       head : head_of before ≡ Some h
@@ -183,7 +183,7 @@ module _ (base : Declared) (said : List Word) (named : IsNamed base said) where
             (some_dues w.text (terms_behind rest) ds n at (sym (ap length (terms_more w rest is)) ∙ count) (λ d due. term_due before w rest n d is walks due) (more is))
         by false is more = no_dues (terms_behind (w ∷ rest)) ds (terms_end w rest is) count
 
-  -- a head is declared, and the terms behind it are of the types that are due
+  -- a head is declared, and its terms have the types that they must have
   pub record HeadDue (before : List Word) (h : Word) (rest : List Word) : Type 0 where
     pub dues : List Text
     pub types : due_types known h ≡ Some dues

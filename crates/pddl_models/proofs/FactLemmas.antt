@@ -1,4 +1,4 @@
--- In the words of a problem of which none breaks a rule of names the facts and the values fit the vocabulary.
+-- In the well-named words of a problem the facts and the values fit the vocabulary.
 use Rattle.std.proofs.Common.{◌≡◌, ℕ, ◌&&◌, Bool, true, false, cond, Some, None, Option, List, [], ◌∷◌, ◌++◌, map, refl, sym, ap, subst, ◌∙◌, append_assoc}
 use Rattle.std.specs.Prelude.{◌==◌, slice_get, codes, IsTrue}
 use Rattle.std.specs.List.{list_all}
@@ -39,7 +39,7 @@ use Rattle.pddl_models.proofs.ProblemLemmas.{problem_agrees, no_params}
 use Rattle.pddl_models.proofs.RepeatLemmas.{firsts_entries, map-firsts}
 use Rattle.pddl_models.proofs.SayingLemmas.{action_named, atoms_more, atoms_same, values_more, values_same}
 
--- the name stands at its place
+-- the name is at its place
 abbrev stands : List Text → Text → Bool
 stands names name = option_map_or (λ (t : Text). bytes_eq t name) (slice_get names (place_in names name)) false
 
@@ -53,7 +53,7 @@ stands_at names name is = by (slice_get names (place_in names name)) refl is
     by None at is = absurd (true≢false (sym is))
     by (Some t) at is = at ∙ ap (λ (u : Text). Some u) (name_same t name is)
 
--- names that stand at their places are the same where their places are
+-- names that are at their places are the same where their places are
 places_tell : (names : List Text) (a b : Text) → stands names a ≡ true → stands names b ≡ true → bytes_eq a b ≡ (place_in names a == place_in names b)
 places_tell names a b p q =
     same_from_decides (bytes_eq a b) (place_in names a == place_in names b) (same_numbers-decides a b)
@@ -171,7 +171,7 @@ module _ (domain : Vocabulary) (said : List Word) (words : Vocabulary) (more : S
       and_from (stands (names_of words.objects) text) (list_all (stands (names_of words.objects)) texts)
       (object_stands text due (first_so (is_due known [] text due) (pointwise (is_due known []) texts dues) fit)) (objects_stand texts dues (second_so (is_due known [] text due) (pointwise (is_due known []) texts dues) fit))
 
-  -- a value whose function stands at this word
+  -- a value whose function is at this word
   record ToldHere (w : Word) (rest : List Word) : Type 0 where
     told : is_told ((w.text, terms_behind rest), number_behind rest) ≡ true
     value : value_of ((w.text, terms_behind rest), number_behind rest) ≡ true

@@ -58,7 +58,7 @@ module _ {X : Type 0} (key_of : X → List ℕ) (made : List X) (entry : X) (old
           sym (sym (before other) ∙ ap (has_key old) (sym same) ∙ had)
       by false is = refl
 
--- ---- numbers tell terms and atoms apart
+-- ---- numbers distinguish terms and atoms
 
 terms_key-same : (ss ts : List Term) → same_numbers (terms_key ss) (terms_key ts) ≡ pointwise same_term ss ts
 terms_key-same [] [] = refl

@@ -1,4 +1,4 @@
--- The place of a name among names, and the entry that stands there.
+-- The place of a name among names, and the entry there.
 use Rattle.std.proofs.Common.{◌≡◌, ℕ, ◌+◌, ◌<◌, ◌||◌, suc, zero, Bool, true, false, cond, Some, None, Option, List, [], ◌∷◌, length, map, refl, sym, ap, ◌∙◌, arith}
 use Rattle.std.specs.Prelude.{not, filter, slice_get, unwrap_or}
 use Rattle.std.specs.List.{list_any, position_from}
@@ -61,7 +61,7 @@ place_later m names name other among =
 pub place_none : (names : List Text) (name : Text) → is_among names name ≡ false → place_in names name ≡ 0
 place_none names name none = ap (λ o. unwrap_or o 0) (position_none names name 0 none)
 
--- the name stands at its place
+-- the name is at its place
 abbrev pub IsAt : List Text → Text → Type 0
 IsAt names name = slice_get names (place_in names name) ≡ Some name
 
@@ -73,7 +73,7 @@ pub at_place : (names : List Text) (name : Text) → is_among names name ≡ tru
 at_place [] name among = absurd (true≢false (sym among))
 at_place (m ∷ names) name among = at_by m names name (at_place names name) (bytes_eq m name) refl among
 
--- names that stand at their places have different places
+-- different names have different places
 pub one_place : (names : List Text) (a b : Text) → IsAt names a → IsAt names b → place_in names a ≡ place_in names b → a ≡ b
 one_place names a b first second same = some_inj a b (sym first ∙ ap (slice_get names) same ∙ second)
 
@@ -117,7 +117,7 @@ module _ {X : Type 0} where
   first_at-by e entries name x rest false is at =
       ap (slice_get (e ∷ entries)) (place_later e.0 (map name_at entries) name is (first_among entries name x at)) ∙ rest at
 
-  -- the first entry of a name stands at the place of the name
+  -- the first entry of a name is at the place of the name
   pub first_at : (entries : List (Text × X)) (name : Text) (x : X) → first_of entries name ≡ Some x → slice_get entries (place_in (map name_at entries) name) ≡ Some (name, x)
   first_at [] name x at = absurd (cc)
   first_at (e ∷ entries) name x at = first_at-by e entries name x (first_at entries name x) (bytes_eq e.0 name) refl at

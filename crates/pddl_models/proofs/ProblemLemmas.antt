@@ -29,7 +29,7 @@ use Rattle.pddl_models.proofs.DomainLemmas.{type_below, top_parent}
 use Rattle.pddl_names.proofs.NumberLemmas.{one_number}
 use Rattle.pddl_models.proofs.PlaceInLemmas.{some_inj, is_among, name_self, name_same, at_place, place_none, name_at, first_at, first_none, first_kept, first_first}
 
--- ---- the words of a problem declare objects alone
+-- ---- the words of a problem declare only objects
 
 module _ where
   no_type : (r : Role) (e : Typed) (more : List Typed) → is_of_problem r ≡ true → more ≡ [] → with_type r e more ≡ []
@@ -177,7 +177,7 @@ module _ (words : Vocabulary) where
       signed_from signatures facts name dues n refl (slice_get signatures n) refl
       (sym (slice_get-map (signature_declared types) signatures n) ∙ sym (ap (λ ns. slice_get (stated signatures) (place_in ns name)) (stated_names signatures)) ∙ first_at (stated signatures) name dues at)
 
--- ---- entries behind entries
+-- ---- entries after entries
 
 module _ {X : Type 0} (ys : List (Text × X)) (name : Text) where
   append_by : (e : Text × X) (b : Bool) (o p : Option X) → o ≡ option_or p (first_of ys name) → cond b (Some e.1) o ≡ option_or (cond b (Some e.1) p) (first_of ys name)

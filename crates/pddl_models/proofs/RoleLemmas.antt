@@ -1,5 +1,5 @@
--- The form of a text says which roles its words have: `total-cost` is no function of a cost or a value, and the words of
--- a problem have roles of problems.
+-- The form of a text says which roles its words have: `total-cost` isn't the function of a cost or a value, and the words
+-- of a problem have roles of problems.
 use Rattle.std.proofs.Common.{◌≡◌, ◌≢◌, ℕ, ◌&&◌, ◌++◌, Bool, true, false, List, [], ◌∷◌, refl, sym, ap, subst, ◌∙◌}
 use Rattle.std.specs.Prelude.{IsTrue, codes}
 use Rattle.std.specs.List.{AllByRecursion, list_all}
@@ -106,7 +106,7 @@ is_problem_part (part.NamesMore l) = of_objects l
 is_problem_part (part.NameType l) = of_objects l
 is_problem_part p = false
 
--- only such parts are due behind
+-- only such parts can follow
 abbrev all_due : List Part → Bool
 all_due due = list_all is_problem_part due
 
@@ -168,7 +168,7 @@ part_role _ s is = absurd (true≢false (sym is))
 both : (a b : Bool) → a ≡ true → b ≡ true → (a && b) ≡ true
 both a b p q = and_from a b p q
 
--- such parts are due behind a word, a `(` and a `)`
+-- such parts can follow a word, a `(` and a `)`
 word_due : (p : Part) (s : Sort) → is_problem_part p ≡ true → next_due (after_word p s) ≡ true
 word_due part.ProblemDefine word.Define is = refl
 word_due part.ProblemDefine s is = refl

@@ -1,4 +1,4 @@
--- What is said from a word on, by the word and what is said behind it.
+-- What is said from a word on, by the word and what is said after it.
 use Rattle.std.proofs.Common.{◌≡◌, ℕ, ◌+◌, ◌||◌, Bool, true, false, cond, Some, None, Option, List, [], ◌∷◌, ◌++◌, map, drop, refl, sym, ap, subst, ◌∙◌, append_assoc}
 use Rattle.std.specs.Prelude.{not, slice_get, unwrap_or, take_while, fold, IfSome}
 use Rattle.std.specs.List.{position_from}
@@ -84,7 +84,7 @@ own_by w rest later true is false act = ap terms_behind (own_more w rest act) �
 own_by w rest later false is true act = ap terms_behind (own_end w rest act) ∙ sym (terms_end w rest is)
 own_by w rest later false is false act = ap terms_behind (own_more w rest act) ∙ terms_end w (own_words rest) is ∙ sym (terms_end w rest is)
 
--- the terms behind a word of an action are all its own
+-- the terms after a word of an action are all its own
 pub own_terms : (words : List Word) → terms_behind (own_words words) ≡ terms_behind words
 own_terms [] = refl
 own_terms (w ∷ rest) = own_by w rest (own_terms rest) (is_term w) refl (is_action w) refl
@@ -105,7 +105,7 @@ atoms_more due w rest is = saying_step due w.role (w.text, terms_behind rest) (a
 pub atoms_same : (due : Says) (w : Word) (rest : List Word) → is_saying due w.role ≡ false → atoms_in due (w ∷ rest) ≡ atoms_in due rest
 atoms_same due w rest is = silent_step due w.role (w.text, terms_behind rest) (atoms_in due rest) is
 
--- behind a word of an action
+-- after a word of an action
 pub own_atoms_more : (due : Says) (w : Word) (rest : List Word) → is_action_name w.role ≡ false → is_saying due w.role ≡ true
     → atoms_in due (own_words (w ∷ rest)) ≡ (w.text, terms_behind rest) ∷ atoms_in due (own_words rest)
 own_atoms_more due w rest own is =

@@ -1,4 +1,4 @@
--- Words that break no rule of names say a domain over the vocabulary that they say, and behind a domain those of a problem say a
+-- Well-named words of a domain have a domain over their vocabulary, and after a domain those of a problem have a
 -- model over the vocabulary of both.
 use Rattle.std.proofs.Common.{ℕ, List, [], map, refl}
 use Rattle.model_kit.specs.declared.atom.GroundAtom.{GroundAtom}
@@ -27,7 +27,7 @@ some_domain said words is named calls =
     let domain : Domain = record { words = words; bodies = bodies; sound = said_bodies said words is named calls bodies refl } in
     (domain, record { words = is; bodies = refl })
 
--- behind a domain, the words of a problem say a model
+-- after a domain, the words of a problem have a model
 pub some_model : (domain : Domain) (said : List Word) (words : Vocabulary) → SaysMore domain.words said words → IsNamed (declared_by domain.words) said → AreNoTotals said → AreOfProblem said
     → (model : Model) × SaysModel domain said model
 some_model domain said words more named calls problem =

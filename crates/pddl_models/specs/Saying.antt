@@ -29,13 +29,13 @@ is_calling role.Cost = true
 is_calling role.Value = true
 is_calling r = false
 
--- `total-cost` is no function of a cost or a value
+-- `total-cost` isn't the function of a cost or a value
 abbrev pub AreNoTotals : List Word → Type 0
 AreNoTotals words =
     All (λ (w : Word). IsTrue (is_calling w.role) → bytes_eq w.text (codes "total-cost") ≡ false)
     words
 
--- a word of this role may stand in a problem
+-- a word of this role may occur in a problem
 abbrev pub is_of_problem : Role → Bool
 is_of_problem role.ListedObject = true
 is_of_problem role.ObjectType = true

@@ -81,7 +81,7 @@ increase_in functions objects params (w ∷ rest) =
 abbrev pub param_names : List Word → List Text
 param_names behind = map (λ (p : Typed). p.0) (action_params behind)
 
--- the words of an action alone
+-- only the words of an action
 abbrev pub own_words : List Word → List Word
 own_words behind = take_while (λ w. not (is_action w)) behind
 
@@ -91,7 +91,7 @@ said_atoms due words behind =
     firsts same_schema_atom (map (schema_atom_said (words_named words.predicates)
     (names_of words.objects) (param_names behind)) (atoms_in due (own_words behind)))
 
--- the body of an action, by the words behind its name
+-- the body of an action, by the words after its name
 abbrev pub body_said : Vocabulary → ActionWords → Body
 body_said words action = record {
   pre = said_atoms says.Needed words action.1;
@@ -151,7 +151,7 @@ abbrev pub schema_said : Bool → Body → Schema
 schema_said metric body =
     record { pre = body.pre; add = body.add; del = body.del; cost = cost_said metric body.increase }
 
--- behind the domain, the words say the model
+-- after the domain, the words give the model
 pub record SaysModel (domain : Domain) (said : List Word) (model : Model) : Type 0 where
   pub words : SaysMore domain.words said model.words
   pub init : model.init ≡ facts_said says.Initial model.words said

@@ -1,5 +1,5 @@
--- How lists without repeats are made: an entry goes to the end unless the numbers that tell it
--- apart were seen before.
+-- How lists without repeats are made: an entry goes to the end unless the numbers that distinguish
+-- it were seen before.
 use Rattle.std.specs.Prelude.{ℕ, ◌≡◌, Bool, List, [], ◌∷◌, ◌++◌, if◌then◌else◌}
 use Rattle.std.specs.BTreeSet.{contains}
 use Rattle.std.specs.Cmp.Lexicographic.{slice_cmp}
@@ -20,7 +20,7 @@ with_first same entries x = if list_any (λ y. same y x) entries then entries el
 abbrev pub same_by : {X : Type 0} → (X → List ℕ) → X → X → Bool
 same_by key_of x y = same_numbers (key_of x) (key_of y)
 
--- ---- the numbers that tell entries apart
+-- ---- the numbers that distinguish entries
 
 -- the predicate and the objects of an atom
 abbrev pub atom_key : GroundAtom → List ℕ
@@ -30,7 +30,7 @@ atom_key atom = atom.predicate ∷ atom.objects
 abbrev pub value_key : ℕ × List ℕ × ℕ → List ℕ
 value_key value = value.0 ∷ value.1
 
--- a parameter or an object, before what tells the further terms apart
+-- a parameter or an object, before what distinguishes the further terms
 abbrev pub term_key : Term → List ℕ → List ℕ
 term_key (Param i) more = 0 ∷ i ∷ more
 term_key (Object i) more = 1 ∷ i ∷ more

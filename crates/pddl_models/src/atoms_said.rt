@@ -1,3 +1,5 @@
+//! The atoms and the cost that the words of an action give.
+
 ghost use Rattle.std.specs.Prelude.{◌≡◌, ◌+◌, ◌<◌, ◌^◌, ℕ, List, length, drop, map, slice_get};
 ghost use Rattle.std.specs.Prelude.{IfOk, IfSome};
 ghost use Rattle.std.specs.Option.{option_map};
@@ -64,7 +66,7 @@ fn term_said(objects: &NameTable, params: &NameTable, text: &Text) -> Term
     }
 }
 
-/// The terms from a word on, up to the first word that is none.
+/// The terms from a word on, up to the first word that isn't a term.
 pub fn terms_said(
     alloc: Global,
     objects: &NameTable,
@@ -87,7 +89,7 @@ pub fn terms_said(
     Ok(made)
 }
 
-// The atom whose head stands at a place.
+// The atom whose head is at a place.
 fn atom_said(
     alloc: Global,
     tables: &WordTables,
@@ -109,7 +111,7 @@ fn atom_said(
     })
 }
 
-/// The atoms of an action that say this, without repeats, by the words from a place behind its name
+/// The atoms of an action that say this, without repeats, by the words from a place after its name
 /// on.
 pub fn atoms_said(
     alloc: Global,
@@ -152,7 +154,7 @@ fn number_said(text: &Text) -> Option<CostExpr>
     }
 }
 
-/// How an action raises the total cost, by the words from a place behind its name on.
+/// How an action raises the total cost, by the words from a place after its name on.
 pub fn increase_said(
     alloc: Global,
     tables: &WordTables,

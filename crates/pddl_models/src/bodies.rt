@@ -1,3 +1,5 @@
+//! The bodies of actions, and the domain.
+
 ghost use Rattle.std.specs.Prelude.{◌≡◌, ◌++◌, ◌≤◌, ◌<◌, ◌^◌, ℕ, List, length, drop, map, IfOk};
 ghost use Rattle.model_kit.specs.declared.vocabulary.Vocabulary as vocabularies;
 ghost use Rattle.pddl_names.specs.Listings.{nothing};
@@ -17,7 +19,7 @@ use mre_base::{List, NoMemory, Text};
 use pddl_names::{NameTable, Says, Word, is_action, is_param};
 use std::alloc::Global;
 
-// The parameters of an action, by the words from a place behind its name on.
+// The parameters of an action, by the words from a place after its name on.
 fn params_said(
     alloc: Global,
     said: &List<Word>,
@@ -40,7 +42,7 @@ fn params_said(
     Ok(made)
 }
 
-// The places of the parameters of an action, by the words from a place behind its name on.
+// The places of the parameters of an action, by the words from a place after its name on.
 fn param_table(alloc: Global, said: &List<Word>, start: usize) -> Result<NameTable, NoMemory>
     requires few { length said.now < 2 ^ 30 }
     ensures ok { IfOk result (ArePlacesOf (param_names (drop start said.now))) }
@@ -49,7 +51,7 @@ fn param_table(alloc: Global, said: &List<Word>, start: usize) -> Result<NameTab
     NameTable::of(alloc, &params)
 }
 
-// The body of an action, by the words from a place behind its name on.
+// The body of an action, by the words from a place after its name on.
 fn body_said(
     alloc: Global,
     tables: &WordTables,
@@ -69,9 +71,8 @@ fn body_said(
     })
 }
 
-/// What the actions of a domain need, add and delete, and how they raise the cost, in the numbers
-/// of
-/// the vocabulary.
+/// The preconditions, adds and deletes of the actions of a domain, and how they raise the cost, in
+/// the numbers of the vocabulary.
 pub fn bodies_of(
     alloc: Global,
     words: &Vocabulary,
@@ -94,8 +95,7 @@ pub fn bodies_of(
     Ok(made)
 }
 
-/// The domain that words say, of which none breaks a rule of names, over the vocabulary that they
-/// say.
+/// The domain of well-named words, over their vocabulary.
 pub fn domain_of(alloc: Global, words: Vocabulary, said: &List<Word>) -> Result<Domain, NoMemory>
     requires few { length said.now < 2 ^ 30 }
     requires says { SaysWords said.now words }

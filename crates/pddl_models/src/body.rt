@@ -1,9 +1,10 @@
+//! The body of an action of a domain.
+
 use model_kit::{CostExpr, SchemaAtom};
 use mre_base::List;
 
-/// What an action of a domain needs, adds and deletes, and by how much it raises the total cost,
-/// where
-/// it does.
+/// The preconditions, adds and deletes of an action of a domain, and by how much it raises the total
+/// cost, if it does.
 #[derive(Debug)]
 pub struct Body {
     pub pre: List<SchemaAtom>,

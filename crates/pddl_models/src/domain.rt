@@ -1,3 +1,5 @@
+//! A domain: its vocabulary and the bodies of its actions.
+
 ghost use Rattle.std.specs.Prelude.{IsTrue};
 ghost use Rattle.pddl_models.specs.Bodies.{are_bodies};
 
@@ -5,7 +7,7 @@ use crate::body::Body;
 use model_kit::Vocabulary;
 use mre_base::List;
 
-/// A domain: its words, and what each action needs, adds and deletes and how it raises the cost.
+/// A domain: its vocabulary, and the body of each action.
 #[derive(Debug)]
 pub struct Domain {
     pub words: Vocabulary,

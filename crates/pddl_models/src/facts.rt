@@ -1,3 +1,5 @@
+//! The facts and the values of a problem.
+
 ghost use Rattle.std.specs.Prelude.{◌≡◌, ◌+◌, ◌<◌, ◌^◌, ℕ, List, length, drop, map, slice_get};
 ghost use Rattle.std.specs.Prelude.{IfOk, IfSome};
 ghost use Rattle.model_kit.specs.declared.vocabulary.Vocabulary.{Vocabulary};
@@ -17,7 +19,7 @@ use pddl_form::number_of;
 use pddl_names::{NameTable, Role, Says, Word, is_term};
 use std::alloc::Global;
 
-// The numbers of the objects from a word on, up to the first word that is none.
+// The numbers of the objects from a word on, up to the first word that isn't an object.
 fn objects_said(
     alloc: Global,
     objects: &NameTable,
@@ -38,7 +40,7 @@ fn objects_said(
     Ok(made)
 }
 
-// The fact whose head stands at a place.
+// The fact whose head is at a place.
 fn fact_said(
     alloc: Global,
     tables: &WordTables,
@@ -80,7 +82,7 @@ pub fn facts_said(
     Ok(made)
 }
 
-// The number behind the terms from a word on; 0 where there is none.
+// The number after the terms from a word on; 0 where there is no number.
 fn number_said(said: &List<Word>, start: usize) -> u32
     ensures { result ≡ number_behind (drop start said.now) }
 {
@@ -100,7 +102,7 @@ fn is_value(role: Role) -> bool
     matches!(role, Role::Value)
 }
 
-// The value whose function stands at a place.
+// The value whose function is at a place.
 fn value_said(
     alloc: Global,
     tables: &WordTables,

@@ -1,3 +1,5 @@
+//! Law: well-named words have a domain, and those of a problem a model.
+
 ghost use Rattle.std.specs.Prelude.{List};
 ghost use Rattle.model_kit.specs.declared.model.Model.{Model};
 ghost use Rattle.model_kit.specs.declared.vocabulary.Vocabulary.{Vocabulary};
@@ -10,9 +12,8 @@ ghost use Rattle.pddl_models.specs.Saying.{AreNoTotals, AreOfProblem};
 ghost use Rattle.pddl_models.specs.Says.{SaysDomain, SaysModel};
 ghost use Rattle.pddl_models.specs.declared.domain.Domain.{Domain};
 
-/// Words that break no rule of names say a domain over the vocabulary that they say, and behind a
-/// domain
-/// those of a problem say a model over the vocabulary of both.
+/// Well-named words of a domain have a domain over their vocabulary, and after a domain those of a
+/// problem have a model over the vocabulary of both.
 pub fn law_saying()
     ensures some_domain { (said : List Word) (words : Vocabulary) →
         SaysWords said words → IsNamed nothing said → AreNoTotals said →

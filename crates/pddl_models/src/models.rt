@@ -1,3 +1,5 @@
+//! Schemas with their costs, and the model of a problem.
+
 ghost use Rattle.std.specs.Prelude.{◌≡◌, ◌<◌, ◌^◌, length, map, IfOk};
 ghost use Rattle.pddl_names.specs.Naming.{IsNamed};
 ghost use Rattle.pddl_models.specs.Saying.{AreNoTotals, AreOfProblem};
@@ -73,9 +75,7 @@ pub fn schemas_said(
     Ok(made)
 }
 
-/// The model that the words of a problem say, of which none breaks a rule of names, behind a domain
-/// and
-/// over the vocabulary of both.
+/// The model of a well-named problem of this domain, over the vocabulary of both.
 pub fn model_of(
     alloc: Global,
     domain: &Domain,

@@ -1,3 +1,5 @@
+//! Lists without repeats: an entry goes to the end unless its numbers were seen before.
+
 ghost use Rattle.std.specs.Prelude.{◌≡◌, ◌||◌, not, false, ℕ, List, [], ◌∷◌, ◌++◌, IfOk, OnOk};
 ghost use Rattle.model_kit.specs.Same.{same_numbers};
 ghost use Rattle.pddl_models.specs.Unrepeated.{term_key, with_first, same_by, has_key, AreSeen};
@@ -10,7 +12,7 @@ use std::cmp::Ordering;
 use std::collections::BTreeSet;
 use std::marker::Model;
 
-/// The numbers that tell an entry of a list apart from the others. Up to eight lie in the value
+/// The numbers that distinguish an entry of a list from the others. Up to eight are kept in the value
 /// itself.
 #[derive(Drop)]
 pub struct Key {
@@ -104,7 +106,7 @@ impl Seen {
     }
 }
 
-/// An entry that numbers tell apart from others.
+/// An entry that numbers distinguish from others.
 pub trait Keyed {
     ghost use Rattle.std.specs.Prelude.{List, ℕ, IfOk, ◌≡◌};
 
@@ -153,7 +155,7 @@ impl Keyed for SchemaAtom {
 }
 
 impl Key {
-    // A number and further ones behind it.
+    // A number and further ones after it.
     fn headed(alloc: Global, head: u32, rest: &List<u32>) -> Result<Key, NoMemory>
         ensures ok { IfOk result (λ made. made ≡ head ∷ rest.now) }
     {
@@ -164,7 +166,7 @@ impl Key {
     }
 }
 
-// Puts what tells a term apart at the end.
+// Puts what distinguishes a term at the end.
 fn push_term(numbers: &mut SmallVec<u32, 8>, term: Term) -> Result<(), NoMemory>
     ensures ok { OnOk result (numbers.new.items ≡ numbers.old.items ++ term_key term []) }
 {

@@ -1,3 +1,5 @@
+//! Numbers of predicates, functions and objects by their names.
+
 ghost use Rattle.std.specs.Prelude.{◌≡◌, ◌<◌, ◌^◌, ℕ, List, length, IfOk};
 ghost use Rattle.pddl_models.specs.WordTables.{ArePlacesOf, AreWordTables};
 ghost use Rattle.pddl_vocabulary.specs.Values.{place_in};
@@ -40,7 +42,7 @@ impl WordTables {
     }
 }
 
-/// The place of a name among the names of a table; 0 where it is none of them.
+/// The place of a name among the names of a table; 0 where it isn't there.
 pub fn place_in(table: &NameTable, name: &Text) -> u32
     ensures { (names : List (List ℕ)) → ArePlacesOf names table.now →
         result ≡ place_in names name.now }

@@ -82,7 +82,7 @@ or_by true size types rest old is = ap (λ (n : ℕ). Some n) is
 or_by false size types rest old is = refl
 
 module _ (base : List Signature) (self : Arities) where
-  -- the entries from this place on stand before those of the table
+  -- the entries from this place on come before those of the table
   abbrev pub HasBaseFrom : ℕ → Arities → Type 0
   HasBaseFrom place table =
       (types : List (Text × ℕ)) (name : Text) → count_in table name ≡ option_or (arity_of (signed_before types (drop place base)) name) (count_in self name)

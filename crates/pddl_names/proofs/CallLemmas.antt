@@ -132,7 +132,7 @@ given_other _ is e more = refl
 not_term : (w : Word) → w.role ≡ role.Value → is_term w ≡ false
 not_term w is = (λ i. is_term (record { role = is i; text = w.text; at = w.at }))
 
--- a word that is no term ends the terms
+-- a word that isn't a term ends the terms
 ends_by : (b : Bool) (v : Word) (rest more : List Word) → terms_behind rest ≡ terms_behind more → map (λ (u : Word). u.text) (take (cond b (1 + prefix_len is_term rest) 0) (v ∷ rest)) ≡ map (λ (u : Word). u.text) (take (cond b (1 + prefix_len is_term more) 0) (v ∷ more))
 ends_by true v rest more e =
     let one : 1 + prefix_len is_term rest ≡ suc (prefix_len is_term rest) = omega arith in
@@ -148,7 +148,7 @@ pub terms_end : (before : List Word) (w : Word) (rest : List Word) → is_term w
 terms_end [] w rest miss = ended_by w rest (is_term w) refl miss
 terms_end (v ∷ before) w rest miss = ends_by (is_term v) v (before ++ w ∷ rest) before (terms_end before w rest miss)
 
--- the word behind the terms stands where they end
+-- the word after the terms is where they end
 past_by : (b : Bool) (v : Word) (rest : List Word) → past_terms rest ≡ slice_get rest (length (terms_behind rest))
     → cond (not b) (Some v) (past_terms rest) ≡ slice_get (v ∷ rest) (length (map (λ (u : Word). u.text) (take (cond b (1 + prefix_len is_term rest) 0) (v ∷ rest))))
 past_by true v rest e =
@@ -249,7 +249,7 @@ module _ (w : Word) (rest : List Word) (is : w.role ≡ role.Value) where
   }
   first_of_call (v ∷ before) from = role_by v before from (first_of_call before (from + 1)) (is_value_role v.role) refl
 
--- the values that stand before a place have the places of their firsts
+-- the values before a place have the places of their firsts
 abbrev pub FirstsTo : List Word → ℕ → List ℕ → Type 0
 FirstsTo words end firsts =
     (place : ℕ) (w : Word) → place < end → slice_get words place ≡ Some w → w.role ≡ role.Value
@@ -325,7 +325,7 @@ module _ (words : List Word) (place : ℕ) (w : Word) (at : slice_get words plac
         let same : of_call.first - 0 + 1 ≡ first + 1 = omega (arith, told, first_is) in
         before_by true ((Decides-ltb of_call.first (0 + length front)).1 lt) ∙ ap (λ n. Some (number_behind (drop n front))) same
 
-    -- the terms behind an earlier word end before this one
+    -- the terms after an earlier word end before this one
     pub earlier_terms : (first : ℕ) → first < place → terms_behind (drop (first + 1) front) ≡ terms_behind (drop (first + 1) words)
     earlier_terms first early =
         let from : first + 1 ≤ place = omega arith in

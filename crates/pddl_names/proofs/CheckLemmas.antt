@@ -25,7 +25,7 @@ use Rattle.pddl_names.proofs.ParamTypes.{action_name}
 use Rattle.pddl_names.proofs.StopLemmas.{err_inj}
 use Rattle.pddl_names.proofs.RoundLemmas.{words_on, words_anew, none_more, head_on, head_anew, count_on, count_anew}
 
--- ---- where a word stands
+-- ---- where a word is
 
 module _ (words : List Word) where
   pub round_start : (round : Round) → round.start ≡ 0 → AreParamPlaces words 0 round.params → IsRound words 0 round

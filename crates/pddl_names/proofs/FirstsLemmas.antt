@@ -1,4 +1,4 @@
--- The first entry of a name stands at its number.
+-- The first entry of a name is at its number.
 use Rattle.std.proofs.Common.{◌≡◌, ℕ, suc, Bool, true, false, cond, Some, None, Option, List, [], ◌∷◌, refl, sym, ap, ◌∙◌}
 use Rattle.std.specs.Prelude.{slice_get}
 use Rattle.std.specs.Option.{option_map, option_and_then}
@@ -12,7 +12,7 @@ module _ {X : Type 0} where
   abbrev pub named : Text × X → List ℕ
   named entry = entry.0
 
-  -- what the entry with a number has behind its name
+  -- what the entry with a number has beside its name
   abbrev pub behind : List (Text × X) → Option ℕ → Option X
   behind entries o = option_and_then (λ number. option_map (λ (e : Text × X). e.1) (slice_get entries number)) o
 

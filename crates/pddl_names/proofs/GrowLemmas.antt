@@ -71,7 +71,7 @@ module _ (ups : List ℕ) (nodes : List Node) (done : List Bool) (v : ℕ) (n : 
     pub mark_here : IsMarked done' v
     mark_here = get_or-set_same done v true false in_done
 
-    -- what is placed stays so, where the new number has the root of those that stand below it
+    -- what is placed stays so, where the new number has the root of those below it
     kept : (w : ℕ) → IsMarked done w → (up ups w ≡ v → n.root ≡ (node_at nodes w).root) → IsPlaced ups nodes (IsMarked done) w → IsPlaced ups nodes' (IsMarked done') w
     kept w marked rooted placed =
         let here = node_kept w marked in

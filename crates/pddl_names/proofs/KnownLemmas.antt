@@ -141,7 +141,7 @@ module _ (words : List Word) (start : ℕ) where
         ∙ ap (λ (ps : List Typed). made ++ types_of ps) (sym (own_other w.role v g (w.text, type_behind (drop (place + 1) words)) (own_params (drop (place + 1) words))))
         ∙ ap (λ es. made ++ es) (sym rest_is) ∙ known
 
--- ---- the type that stands at a place of the table
+-- ---- the type at a place of the table
 
 pub type_read : (words : List Word) (places : List ℕ) → AreTypePlaces words places → (place : ℕ) (w : Word) → slice_get words place ≡ Some w
     → text_at words (slice_index places place) ≡ type_behind (drop (place + 1) words)

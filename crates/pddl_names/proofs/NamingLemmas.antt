@@ -62,7 +62,7 @@ module _ (broken : TextRule → Bool) where
   least_type a b c d rule.WrongType hit = omega arith
   least_type a b c d _ hit = omega arith
 
-  -- what the search for the first rule tells
+  -- what the search for the first rule answers
   abbrev pub Tells : Option TextRule → Type 0
   Tells None = NoneBroken broken
   Tells (Some first) = IsFirstRule broken first
@@ -127,7 +127,7 @@ module _ (base : Declared) where
   sound_word front w back sound rule.NotWhole = refl
   sound_word front w back sound rule.Reserved = refl
 
-  -- each word behind these breaks no rule
+  -- each word after these breaks no rule
   abbrev SoundFrom : List Word → List Word → Type 0
   SoundFrom before rest = (front : List Word) (w : Word) (back : List Word) → rest ≡ front ++ w ∷ back → (r : TextRule) → breaks base (before ++ front) w back r ≡ false
 
@@ -149,7 +149,7 @@ module _ (base : Declared) where
   sound_from (v ∷ rest) before e =
       sound_by before v rest (first_rule (breaks base before v rest)) (rule_told (breaks base before v rest)) e (sound_from rest (before ++ v ∷ []))
 
-  -- the first fault behind these words
+  -- the first fault after these words
   record FoundFrom (before rest : List Word) (fault : TextFault) : Type 0 where
     front : List Word
     word : Word

@@ -1,4 +1,4 @@
--- The rules of names on small texts: each word stands at its number.
+-- The rules of names on small texts: each word is at its number.
 use Rattle.std.proofs.Common.{◌≡◌, ℕ, List, [], ◌∷◌, Option, None, Some, refl}
 use Rattle.std.specs.Prelude.{codes}
 use Rattle.mre_base.specs.declared.text.Text.{Text}

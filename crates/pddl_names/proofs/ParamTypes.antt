@@ -113,7 +113,7 @@ module _ (w : Word) (rest : List Word) (is : w.role ≡ role.Variable owner.Acti
       (sym (action_name v) ∙ not_first (is_action v) (list_any is_action mid) none)
       (ap (first_before (first_param (from + 1) (mid ++ w ∷ rest) w.text)) next ∙ again_from mid (from + 1) (not_later (is_action v) (list_any is_action mid) none))
 
--- ---- the words of an action, behind its name
+-- ---- the words of an action, after its name
 
 module _ (words : List Word) (start place : ℕ) (w : Word) (within : start ≤ place) (at : slice_get words place ≡ Some w)
     (words_are : action_words (take place words) ≡ between start place words) where

@@ -100,7 +100,7 @@ shifted None place e = absurd (cc)
 shifted (Some p) place e = (p, refl, some_inj (suc p) place e)
 
 module _ {X : Type 0} (t : X → Bool) where
-  -- of a list in which an item passes behind others, the first place is among the others exactly where one of them passes
+  -- where an item passes after others, the first place that passes is among the others exactly where one of them passes
   abbrev Among : List X → ℕ → Type 0
   Among before place = (list_any t before ≡ true → place < length before) × (place < length before → list_any t before ≡ true)
 

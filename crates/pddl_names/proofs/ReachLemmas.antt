@@ -57,7 +57,7 @@ module _ (ups : List ℕ) (nodes : List Node) (forest : IsForest ups nodes) wher
   root_root : (v : ℕ) → v < length ups → root (root v) ≡ root v
   root_root v lt = ap root (sym (root_is v lt)) ∙ root_climb (depth v) v lt
 
-  -- a number stands above another in its tree
+  -- a number is above another in its tree
   abbrev pub Under : ℕ → ℕ → Type 0
   Under a b = (depth b ≤ depth a) × (climb ups (depth a - depth b) a ≡ b)
 

@@ -45,7 +45,7 @@ module _ {X : Type 0} where
       let whole : i + 1 + (place - (i + 1)) ≡ place = omega arith in
       ap (λ j. list_any t (between from j xs)) (sym whole) ∙ any_further t xs from (i + 1) (place - (i + 1)) up (omega arith) here
 
-  -- the rest from one place on, up to an item and behind it
+  -- the rest from one place on, up to an item and after it
   pub between_split : (xs : List X) (from place : ℕ) (x : X) → from ≤ place → slice_get xs place ≡ Some x → drop from xs ≡ between from place xs ++ x ∷ drop (place + 1) xs
   between_split xs from place x le at =
       let whole : from + (place - from) ≡ place = omega arith in

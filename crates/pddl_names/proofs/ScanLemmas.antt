@@ -1,4 +1,4 @@
--- A table that is filled from the last word to the first: at each place stands what a fold gives of the words behind it.
+-- A table that is filled from the last word to the first: at each place is what a fold gives of the words after it.
 use Rattle.std.proofs.Common.{◌≡◌, ℕ, ◌+◌, ◌-◌, ◌<◌, ◌≤◌, ◌≢◌, zero, suc, Some, None, Option, List, [], ◌∷◌, length, drop, get_or, get_or-set_other, get_or-set_same, length-set, refl, sym, ap, subst, ◌∙◌, arith, ⊎_elim}
 use Rattle.std.specs.Prelude.{slice_get, slice_set, slice_index, IfSome}
 use Rattle.std.proofs.lemmas.Bool.{cases_lt}
@@ -20,7 +20,7 @@ past_end [] (suc place) le = refl
 past_end (x ∷ xs) zero le = absurd (omega arith)
 past_end (x ∷ xs) (suc place) le = past_end xs place (omega arith)
 
--- `view` is what a number of the table means, and `fold` what is said of the words behind a place
+-- `view` is what a number of the table means, and `fold` the value of the words after a place
 module _ {X Y : Type 0} (view : ℕ → Y) (fold : List X → Y) (xs : List X) where
   -- what is known before the words from a place on are passed
   pub record ScannedFrom (from behind : ℕ) (table : List ℕ) : Type 0 where
@@ -58,7 +58,7 @@ module _ {X Y : Type 0} (view : ℕ → Y) (fold : List X → Y) (xs : List X) w
               (cases_lt place from);
         }
 
--- within a table it doesn't matter what stands past its end
+-- within a table it doesn't matter what is past its end
 pub index_read : (table : List ℕ) (place other : ℕ) → place < length table → get_or table place other ≡ slice_index table place
 index_read [] place other lt = absurd (omega arith)
 index_read (n ∷ table) zero other lt = refl

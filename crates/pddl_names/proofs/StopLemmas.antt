@@ -36,7 +36,7 @@ module _ (words : Vocabulary) where
   abbrev pub IsObject : Text × Place → ℕ → Type 0
   IsObject word number = IsNumberOf entry_name words.objects word.0 number
 
-  -- why a word is no object of a type
+  -- why a word isn't an object of a type
   pub data IsWrong (word : Text × Place) (above : ℕ) : TextRule → Type 0 where
     unknown : IsUndeclared entry_name words.objects word.0 → IsWrong word above rule.Undeclared
     misfit : (number : ℕ) → IsObject word number → is_object_of words number above ≡ false → IsWrong word above rule.WrongType

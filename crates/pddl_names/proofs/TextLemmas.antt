@@ -21,7 +21,7 @@ use Rattle.pddl_names.specs.Texts.{IsSaid, IsUnsaid, text, form, names, unless, 
 use Rattle.pddl_names.proofs.NamingLemmas.{named_of, misnamed_of, not_both, one_fault}
 use Rattle.pddl_names.proofs.StopLemmas.{given, failed, ok_inj, err_inj}
 
--- ---- one reading behind another
+-- ---- one reading after another
 
 -- a value of the first reading, and what it is read as further
 pub record Both {A B : Type 0} (First : A → Type 0) (Second : A → B → Type 0) (made : B) : Type 0 where

@@ -15,7 +15,7 @@ use Rattle.pddl_names.specs.declared.role.Word.{Word}
 use Rattle.pddl_names.specs.Listings.{Signed, first_of, predicates_in, functions_in}
 use Rattle.pddl_names.specs.Texts.{signature_declared}
 
--- things of the kind have parameters, and stand at the heads of atoms and costs
+-- things of the kind have parameters, and are the heads of atoms and costs
 abbrev pub is_signed : Kind → Bool
 is_signed kind.Predicates = true
 is_signed kind.Functions = true

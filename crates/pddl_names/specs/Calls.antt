@@ -24,8 +24,7 @@ call_cmp = on (λ t. t.words.items) (slice_cmp (slice_cmp nat_cmp))
 abbrev pub is_call : Call → Signed → Bool
 is_call key call = pointwise bytes_eq (names_in key) (call.0 ∷ call.1)
 
--- the table has the place of the first value with each call, of the words that stand from a place
--- on
+-- the table has the place of the first value with each call, among the words from a place on
 abbrev pub AreCallsFrom : ℕ → List Word → BTreeMap Call ℕ → Type 0
 AreCallsFrom from words table =
     (key : Call) → get call_cmp table key ≡ first_value (is_call key) from words

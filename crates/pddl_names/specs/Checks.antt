@@ -27,6 +27,6 @@ unless_fault (Some fault) = Err fault
 abbrev pub names_read : Declared → List Word → Result (Unit {0}) TextFault
 names_read base words = unless_fault (first_broken base [] words)
 
--- where the terms begin that may stand behind a word at a place
+-- where the terms of a word at a place begin, if it has any
 abbrev pub next_from : Word → ℕ → ℕ → ℕ
 next_from w place from = if is_term w then from else place + 1

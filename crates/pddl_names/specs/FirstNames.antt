@@ -16,7 +16,7 @@ first_rule broken =
     else (if broken rule.WrongArity then Some rule.WrongArity
     else (if broken rule.WrongType then Some rule.WrongType else None))))
 
--- the fault of a word, or else what comes of the words behind it
+-- the fault of a word, or else that of the words after it
 abbrev pub fault_or : Word → Option TextRule → Option TextFault → Option TextFault
 fault_or w None behind = behind
 fault_or w (Some r) behind = Some (record { at = w.at; rule = r; word = w.text })

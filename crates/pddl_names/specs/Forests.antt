@@ -41,7 +41,7 @@ pub record IsJump (ups : List ℕ) (nodes : List Node) (Done : ℕ → Type 0) (
       ≡ (node_at nodes number).depth
   pub moves : 0 < (node_at nodes number).depth → 0 < steps
 
--- a number that is done is a root, or it stands one deeper than its parent under the same root
+-- a number that is done is a root, or it is one deeper than its parent under the same root
 pub record IsPlaced (ups : List ℕ) (nodes : List Node) (Done : ℕ → Type 0)
     (number : ℕ) : Type 0 where
   pub stands : (((node_at nodes number).root ≡ number) × ((node_at nodes number).depth ≡ 0))
@@ -105,7 +105,7 @@ pub record IsSettled (ups : List ℕ) (nodes : List Node) (done seen : List Bool
   pub all : (number : ℕ) → IsMarked seen number → IsMarked done number
   pub back : (number : ℕ) → IsMarked done number → IsMarked seen number
 
--- a number stands above another in its tree, as many steps up as it is less deep
+-- a number is above another in its tree, as many steps up as it is less deep
 abbrev pub IsUnder : List ℕ → List Node → ℕ → ℕ → Type 0
 IsUnder ups nodes from to =
     ((node_at nodes to).depth ≤ (node_at nodes from).depth)

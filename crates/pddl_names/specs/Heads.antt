@@ -1,4 +1,4 @@
--- What is known of the words that have terms behind them: the heads of atoms, costs and values.
+-- What is known of the words that are followed by terms: the heads of atoms, costs and values.
 use Rattle.std.specs.Prelude.{ℕ, ◌&&◌, Bool, true, false, List, length, Option}
 use Rattle.std.specs.Option.{option_map}
 use Rattle.pddl_names.specs.declared.heads.Heads.{Heads}
@@ -17,7 +17,7 @@ pub record AreHeads (known : Declared) (words : List Word) (heads : Heads) : Typ
   pub terms : AreTermCounts words heads.terms.items
   pub params : AreParamCounts words heads.params.items
 
--- how many terms are due behind a head that is declared
+-- how many terms a declared head must have
 abbrev pub due_count : Declared → Word → Option ℕ
 due_count known w = option_map length (due_types known w)
 

@@ -1,4 +1,4 @@
--- What the words of a domain or a problem declare. A listed name has the type behind the dash of
+-- What the words of a domain or a problem declare. A listed name has the type after the dash of
 -- its group.
 use Rattle.std.specs.Prelude.{ℕ, ◌+◌, ◌&&◌, ◌||◌, not, Bool, true, false, List, [], ◌∷◌, ◌++◌, map}
 use Rattle.std.specs.Prelude.{codes, length, take_while, find, Option, unwrap_or, if◌then◌else◌}
@@ -14,7 +14,7 @@ use Rattle.pddl_names.specs.declared.role.Role.{Role}
 use Rattle.pddl_names.specs.declared.role.Role.TheVariants as role
 use Rattle.pddl_names.specs.declared.role.Word.{Word}
 
--- ---- what stands behind a word
+-- ---- what follows a word
 
 -- a word of a group, where its type is what a further word of the group has: a name, or the dash
 abbrev pub type_at : Role → Text → Text → Text
@@ -27,7 +27,7 @@ type_at role.ObjectType text behind = text
 type_at role.VariableType text behind = text
 type_at r text behind = codes "object"
 
--- the type of a group that goes on here: the word behind its dash, or `object` where it has none
+-- the type of a group that goes on here: the word after its dash, or `object` where it has none
 abbrev pub type_behind : List Word → Text
 type_behind [] = codes "object"
 type_behind (w ∷ rest) = type_at w.role w.text (type_behind rest)
@@ -39,7 +39,7 @@ is_term w = has_term w.role
     has_term role.Term = true
     has_term r = false
 
--- the terms behind a head
+-- the terms of a head
 abbrev pub terms_behind : List Word → List Text
 terms_behind words = map (λ w. w.text) (take_while is_term words)
 
@@ -53,7 +53,7 @@ Typed = Text × Text
 abbrev pub Signed : Type 0
 Signed = Text × List Text
 
--- the entry of a name that is listed so, before those listed behind it
+-- the entry of a listed name, before those listed after it
 abbrev pub with_type : Role → Typed → List Typed → List Typed
 with_type role.ListedType entry more = entry ∷ more
 with_type r entry more = more
@@ -71,25 +71,25 @@ abbrev pub objects_listed : List Word → List Typed
 objects_listed [] = []
 objects_listed (w ∷ rest) = with_object w.role (w.text, type_behind rest) (objects_listed rest)
 
--- a word behind the name of a predicate or a function: a parameter, a word of its group, or no more
+-- a word after the name of a predicate or a function: a parameter, a word of its group, or the end
 abbrev pub with_own : Role → Typed → List Typed → List Typed
 with_own (role.Variable o) entry more = entry ∷ more
 with_own role.Dash entry more = more
 with_own role.VariableType entry more = more
 with_own r entry more = []
 
--- the parameters behind the name of a predicate or a function, with their types
+-- the parameters of a predicate or a function, with their types, by the words after its name
 abbrev pub own_params : List Word → List Typed
 own_params [] = []
 own_params (w ∷ rest) = with_own w.role (w.text, type_behind rest) (own_params rest)
 
--- a word behind the name of an action: a parameter, the next action, or another word
+-- a word after the name of an action: a parameter, the next action, or another word
 abbrev pub with_param : Role → Typed → List Typed → List Typed
 with_param (role.Variable owner.Action) entry more = entry ∷ more
 with_param role.Action entry more = []
 with_param r entry more = more
 
--- the parameters of an action with their types, by the words behind its name
+-- the parameters of an action with their types, by the words after its name
 abbrev pub action_params : List Word → List Typed
 action_params [] = []
 action_params (w ∷ rest) = with_param w.role (w.text, type_behind rest) (action_params rest)
@@ -122,11 +122,11 @@ functions_in (w ∷ rest) =
 abbrev pub Given : Type 0
 Given = Signed × ℕ
 
--- the word behind a head and its terms
+-- the word after a head and its terms
 abbrev pub past_terms : List Word → Option Word
 past_terms words = find (λ w. not (is_term w)) words
 
--- the number behind a head and its terms
+-- the number after a head and its terms
 abbrev pub number_behind : List Word → ℕ
 number_behind words = unwrap_or (option_and_then (λ (w : Word). number w.text) (past_terms words)) 0
 
@@ -142,8 +142,7 @@ values_in (w ∷ rest) =
 
 -- ---- what is declared
 
--- what a text and what is before it declare: of a name that is declared again the first entry
--- stands
+-- what a text and what is before it declare: a name that is declared again keeps its first entry
 pub record Declared : Type 0 where
   pub types : List Typed
   pub objects : List Typed
@@ -158,7 +157,7 @@ first_of entries name = lookup (λ key. bytes_eq key name) entries
 abbrev pub nothing : Declared
 nothing = record { types = []; objects = []; predicates = []; functions = [] }
 
--- what the words declare behind what was declared before them
+-- what the words declare after what was declared before them
 abbrev pub declared : Declared → List Word → Declared
 declared base words = record {
   types = base.types ++ types_listed words;

@@ -1,6 +1,5 @@
--- Which words of a domain or a problem break a rule of names, and the first of them. A word stands
--- behind the words
--- before it and in front of the rest; `base` is what was declared before the text.
+-- Which words of a domain or a problem break a rule of names, and the first of them. A word is
+-- between the words before it and the rest; `base` is what was declared before the text.
 use Rattle.std.specs.Prelude.{ℕ, ◌≡◌, ◌≤◌, ◌==◌, ◌&&◌, not, Bool, true, false, List, [], ◌∷◌, ◌++◌}
 use Rattle.std.specs.Prelude.{codes, length, reverse, take_while, find, Option, None, Some}
 use Rattle.std.specs.Prelude.{slice_get, if◌then◌else◌}
@@ -22,7 +21,7 @@ use Rattle.pddl_names.specs.Listings.{is_term, terms_behind, own_params, action_
 use Rattle.pddl_names.specs.Listings.{number_behind, values_in, is_type, is_below, comes_back}
 use Rattle.pddl_names.specs.PlanNames.{rank}
 
--- ---- where a word stands
+-- ---- where a word is
 
 abbrev pub is_action : Word → Bool
 is_action w = names_action w.role
@@ -31,15 +30,15 @@ is_action w = names_action w.role
     names_action role.Action = true
     names_action r = false
 
--- the words so far of the action in which a next word stands
+-- the words so far of the action that the next word belongs to
 abbrev pub action_words : List Word → List Word
 action_words before = reverse (take_while (λ w. not (is_action w)) (reverse before))
 
--- the parameters of the action in which the word stands, with their types
+-- the parameters of the action that the word belongs to, with their types
 abbrev pub params_round : List Word → Word → List Word → List Typed
 params_round before w rest = action_params (action_words before ++ w ∷ rest)
 
--- the head of a term that is next, and how many terms stand between them
+-- the head of a term that is next, and how many terms are between them
 abbrev pub head_of : List Word → Option Word
 head_of before = find (λ w. not (is_term w)) (reverse before)
 
@@ -101,10 +100,9 @@ abbrev pub is_other_number : Option ℕ → ℕ → Bool
 is_other_number None n = false
 is_other_number (Some first) n = not (first == n)
 
--- a type is listed again with another parent, an object with another type, a predicate, a function
--- or an action is
--- declared again, a parameter or an increase stands again in one action, or a function has another
--- number
+-- a type is listed again with another parent, an object with another type; a predicate, a function
+-- or an action is declared again; a parameter or an increase is repeated in one action; or a
+-- function has another number
 abbrev pub is_twice : Declared → List Word → Word → List Word → Bool
 is_twice known before w rest = again w.role
   where

@@ -25,7 +25,7 @@ param_at (role.Variable owner.Action) place same later = if same then Some place
 param_at role.Action place same later = None
 param_at r place same later = later
 
--- the place of the first parameter with the name, up to the next action; the words stand from a
+-- the place of the first parameter with the name, up to the next action, among the words from a
 -- place on
 abbrev pub first_param : ℕ → List Word → Text → Option ℕ
 first_param from [] name = None

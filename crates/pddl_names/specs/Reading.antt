@@ -46,7 +46,7 @@ object_at words word type = with_number word (number_of entry_name words.objects
     (λ object. if is_object_of words object type then Ok object else Err
     (broken_at word rule.WrongType))
 
--- the objects that the words name, due to be of these types, behind those so far
+-- the objects that the words name, which must be of these types, after those so far
 abbrev pub objects_from : Vocabulary → List ℕ → Words → List ℕ → Result (List ℕ) TextFault
 objects_from words so_far (word ∷ rest) (type ∷ types) =
     with_value (object_at words word type)
@@ -58,7 +58,7 @@ abbrev pub params_of : Vocabulary → ℕ → List ℕ
 params_of words schema =
     option_map_or (λ (s : Signature). s.params) (slice_get words.actions schema) []
 
--- the step of an action with the objects that the words behind its name name
+-- the step of an action with the objects that the words after its name give
 abbrev pub step_with : Vocabulary → Text × Place → Words → ℕ → Result GroundAction TextFault
 step_with words head rest schema =
     if length rest == length (params_of words schema) then
@@ -71,7 +71,7 @@ abbrev pub step_of : Vocabulary → Text × Place → Words → Result GroundAct
 step_of words head rest =
     with_number head (number_of word_name words.actions head.0) (step_with words head rest)
 
--- the steps of lines, behind those so far; each line has a word
+-- the steps of lines, after those so far; each line has a word
 abbrev pub line_step : Vocabulary → Words → Result GroundAction TextFault
 line_step words [] = Ok (record { schema = 0; objects = [] })
 line_step words (head ∷ rest) = step_of words head rest

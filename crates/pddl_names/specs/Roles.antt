@@ -13,7 +13,7 @@ use Rattle.pddl_names.specs.declared.role.Role.TheVariants as role
 use Rattle.pddl_names.specs.declared.role.Says.TheVariants as says
 use Rattle.pddl_names.specs.declared.role.Word.{Word}
 
--- what is listed, and the type behind it
+-- what is listed, and its type
 abbrev pub listed : Listing → Role
 listed listing.Types = role.ListedType
 listed listing.Constants = role.ListedObject

@@ -1,5 +1,5 @@
 -- What the check of names keeps while it goes over the words of a text: tables of what is declared,
--- and where it stands.
+-- and where.
 use Rattle.std.specs.Prelude.{ℕ, ◌≡◌, ◌+◌, ◌≤◌, Bool, true, false, List, [], ◌∷◌, codes, take, drop}
 use Rattle.std.specs.Prelude.{Option, None, Some, slice_get, slice_index, nat_lt, length, unwrap_or}
 use Rattle.std.specs.Prelude.{zero, suc, if◌then◌else◌}
@@ -45,13 +45,13 @@ abbrev pub value_at : Role → ℕ → Bool → Option ℕ → Option ℕ
 value_at role.Value place same later = if same then Some place else later
 value_at r place same later = later
 
--- the place of the first value with such a call; the words stand from a place on
+-- the place of the first value with this call, among the words from a place on
 abbrev pub first_value : (Signed → Bool) → ℕ → List Word → Option ℕ
 first_value such from [] = None
 first_value such from (w ∷ rest) =
     value_at w.role from (such (call_at w rest)) (first_value such (from + 1) rest)
 
--- at the place of each value stands that of the first with its call
+-- at the place of each value is that of the first with its call
 abbrev pub AreFirstValues : List Word → List ℕ → Type 0
 AreFirstValues words firsts =
     (place : ℕ) (w : Word) → slice_get words place ≡ Some w → w.role ≡ role.Value
@@ -69,7 +69,7 @@ pub record AreTables (known : Declared) (words : List Word) (tables : Tables) : 
   pub values : AreFirstValues words tables.values.items
   pub sizes : AreSized words tables
 
--- the action in which the word at a place stands: where the words behind its name begin, and its
+-- the action that the word at a place belongs to: where the words after its name begin, and its
 -- parameters
 pub record IsRound (words : List Word) (place : ℕ) (round : Round) : Type 0 where
   pub within : round.start ≤ place

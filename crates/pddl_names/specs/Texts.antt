@@ -46,8 +46,7 @@ declared_by words = record {
 -- ---- texts
 
 -- the bytes are a text of the grammar that begins with this part, its words are these, and none
--- breaks a rule of names
--- behind what was declared before
+-- breaks a rule of names after what was declared before
 pub record IsSaid (start : Part) (base : Declared) (bytes : List ℕ)
     (said : List Word) : Type 0 where
   pub forest : Forest

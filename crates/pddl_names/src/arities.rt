@@ -1,3 +1,5 @@
+//! How many parameters predicates and functions have, by name.
+
 ghost use Rattle.std.specs.Prelude.{◌≡◌, ◌<◌, ◌^◌, ◌++◌, ℕ, List, length, map, IfOk, OnOk, IsTrue};
 ghost use Rattle.std.specs.Option.{option_or};
 ghost use Rattle.mre_base.specs.declared.text.Text as texts;
@@ -12,15 +14,15 @@ use mre_base::{List, NoMemory, Text};
 use std::alloc::Global;
 use std::collections::BTreeMap;
 
-/// How many parameters what is declared by a name has: of a name that is declared again, the first.
+/// How many parameters the thing with a name has; a name that is declared again keeps its first number.
 #[derive(Drop)]
 pub struct Arities {
     counts: BTreeMap<Text, usize>,
 }
 
 impl Arities {
-    /// Of the predicates or the functions of the words, behind those that were declared before;
-    /// `behind` has how many parameters stand behind each word.
+    /// Of the predicates or the functions of the words, after those that were declared before;
+    /// `behind` has how many parameters follow each word.
     pub fn of(
         alloc: Global,
         base: &List<Signature>,
@@ -36,7 +38,7 @@ impl Arities {
         Arities::of_words(alloc, words, kind, behind)?.with_base(alloc, base)
     }
 
-    // Of the predicates or the functions of the words alone.
+    // Only of the predicates or the functions of the words.
     fn of_words(
         alloc: Global,
         words: &List<Word>,
@@ -59,7 +61,7 @@ impl Arities {
         Ok(made)
     }
 
-    // With what was declared before, which stands before what is in the table.
+    // With what was declared before, which comes before what is in the table.
     fn with_base(self, alloc: Global, base: &List<Signature>) -> Result<Arities, NoMemory>
         ensures ok { IfOk result (λ made. (types : List (texts.Text × ℕ)) (name : texts.Text) →
             count_in made name ≡ option_or (arity_of (signed_before types base.now) name) (count_in

@@ -1,3 +1,5 @@
+//! A function at objects, the key of a table of values.
+
 use mre_base::Text;
 
 /// A function at objects: its name and theirs.

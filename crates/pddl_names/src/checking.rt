@@ -1,3 +1,5 @@
+//! The check of names: goes over the words once, up to the first that breaks a rule.
+
 ghost use Rattle.std.specs.Prelude.{◌≡◌, ◌+◌, ◌<◌, ◌^◌, [], IfOk, IfSome, length, take, drop};
 ghost use Rattle.std.specs.Prelude.{slice_get};
 ghost use Rattle.pddl_names.specs.declared.role.Word as said;
@@ -24,9 +26,8 @@ use std::alloc::Global;
 // More words than any text has.
 const MANY: usize = 1 << 29;
 
-/// Whether the words of a text break no rule of names behind what was declared before; else the
-/// first
-/// fault. Memory runs out where there are more words than any text has.
+/// That the words of a text break no rule of names after what was declared before, or else the
+/// first fault. Memory runs out where there are more words than any text has.
 pub fn check_names(alloc: Global, base: Base<'_>, words: &List<Word>) -> Result<(), ReadStop>
     ensures ok { IfOk result (λ _. IsNamed (declared_before base.entry) words.now) }
     ensures fault { IfFault result (IsMisnamed (declared_before base.entry) words.now) }
@@ -101,7 +102,7 @@ impl Round {
         })
     }
 
-    // The action in which the next word stands.
+    // The action that the next word belongs to.
     fn past(self, alloc: Global, words: &List<Word>, place: usize) -> Result<Round, NoMemory>
         requires few { length words.now < 2 ^ 30 }
         requires place { place < length words.now }
@@ -170,7 +171,7 @@ impl Tables {
     }
 }
 
-// Where the terms begin that may stand behind a word at a place, by where those before it begin.
+// Where the terms of a word at a place begin, if it has any, by where those before it begin.
 fn terms_from(word: &Word, place: usize, from: usize) -> usize
     requires place { place < 2 ^ 30 }
     ensures { result ≡ next_from word.now place from }

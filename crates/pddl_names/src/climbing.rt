@@ -1,3 +1,5 @@
+//! Builds the tree of types, and climbs it.
+
 ghost use Rattle.std.specs.Prelude.{◌≡◌, ◌++◌, ◌+◌, ◌<◌, ◌^◌, length, map, codes, IfOk, List, Some};
 ghost use Rattle.std.specs.Prelude.{slice_index};
 ghost use Rattle.std.specs.Str.{bytes_eq};
@@ -99,7 +101,7 @@ fn with_parents(alloc: Global, types: &List<(Text, Text)>) -> Result<List<(Text,
     Ok(made)
 }
 
-// With the parents of the types behind.
+// With the parents of the types after it.
 fn parents_of(
     alloc: Global,
     before: List<(Text, Text)>,

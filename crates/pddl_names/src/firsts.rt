@@ -1,3 +1,5 @@
+//! Lists of declared things with the first entry of each name.
+
 ghost use Rattle.std.specs.Prelude.{◌≡◌, ◌<◌, ◌^◌, length, IfOk, IfSome, slice_get};
 ghost use Rattle.std.specs.Option.{option_map};
 ghost use Rattle.pddl_names.specs.Firsts.{typed_name, signed_name};

@@ -1,3 +1,5 @@
+//! Trees with jumps: which numbers are above another, in logarithmic time.
+
 ghost use Rattle.std.specs.Prelude.{◌≡◌, ◌⊎◌, ◌+◌, ◌-◌, ◌<◌, ◌≤◌, ◌^◌, ℕ, IfOk, OnOk, length};
 ghost use Rattle.std.specs.Prelude.{slice_set, true, false};
 ghost use Rattle.std.specs.Bool.{Decides};
@@ -8,8 +10,7 @@ ghost use Rattle.pddl_names.specs.Forests.{IsSettled, IsForest, IsUnder, IsStep}
 use mre_base::NoMemory;
 use std::alloc::Global;
 
-/// What is known of a number in a forest: the root above it, how deep it stands below that root,
-/// and a
+/// What is known of a number in a forest: the root above it, how deep it is below that root, and a
 /// number above it to which one can jump.
 #[derive(Clone, Copy)]
 pub struct Node {
@@ -226,7 +227,7 @@ fn above_at(ups: &Vec<u32>, nodes: &Vec<Node>, from: u32, depth: u32) -> u32
     at
 }
 
-// Whether a number stands above another in its tree.
+// Whether a number is above another in its tree.
 fn is_under(ups: &Vec<u32>, nodes: &Vec<Node>, from: u32, to: u32) -> bool
     requires forest { IsForest ups.now.items nodes.now.items }
     requires from { from < length ups.now.items }

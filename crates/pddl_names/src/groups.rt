@@ -1,3 +1,5 @@
+//! What follows each word: the type of its group, its terms, its parameters.
+
 ghost use Rattle.std.specs.Prelude.{◌≡◌, ◌<◌, ◌^◌, length, slice_get, IfSome, IfOk};
 ghost use Rattle.pddl_names.specs.Groups.{text_at, own_count, AreTypePlaces, AreTermCounts};
 ghost use Rattle.pddl_names.specs.Groups.{AreParamCounts};
@@ -7,7 +9,7 @@ use crate::role::{Role, Word};
 use mre_base::{List, NoMemory};
 use std::alloc::Global;
 
-// Where the type of a group stands that goes on with this word, by where it stands behind the word.
+// The place of the type of a group that goes on with this word, by its place for the next word.
 fn group_place(words: &List<Word>, place: usize, behind: u32) -> u32
     requires place { place < length words.now }
     requires few { length words.now < 2 ^ 30 }
@@ -21,7 +23,7 @@ fn group_place(words: &List<Word>, place: usize, behind: u32) -> u32
     }
 }
 
-/// Where the type behind each word of a group stands.
+/// The place of the type of each word of a group.
 pub fn type_places(alloc: Global, words: &List<Word>) -> Result<Vec<u32>, NoMemory>
     requires few { length words.now < 2 ^ 30 }
     ensures ok { IfOk result (λ places. AreTypePlaces words.now places.items) }
@@ -42,7 +44,7 @@ pub fn is_term(word: &Word) -> bool
     matches!(&word.role, Role::Term)
 }
 
-/// How many terms stand behind each word.
+/// How many terms follow each word.
 pub fn term_counts(alloc: Global, words: &List<Word>) -> Result<Vec<u32>, NoMemory>
     requires few { length words.now < 2 ^ 30 }
     ensures ok { IfOk result (λ counts. AreTermCounts words.now counts.items) }
@@ -60,7 +62,7 @@ pub fn term_counts(alloc: Global, words: &List<Word>) -> Result<Vec<u32>, NoMemo
     Ok(counts)
 }
 
-// How many parameters stand from a word on, by how many stand behind it.
+// How many parameters there are from a word on, by how many follow it.
 fn own_count(role: Role, behind: u32) -> u32
     requires { behind < 2 ^ 30 }
     ensures { result ≡ own_count role behind }
@@ -72,7 +74,7 @@ fn own_count(role: Role, behind: u32) -> u32
     }
 }
 
-/// How many parameters stand behind each word.
+/// How many parameters follow each word.
 pub fn param_counts(alloc: Global, words: &List<Word>) -> Result<Vec<u32>, NoMemory>
     requires few { length words.now < 2 ^ 30 }
     ensures ok { IfOk result (λ counts. AreParamCounts words.now counts.items) }

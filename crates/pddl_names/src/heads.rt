@@ -1,3 +1,5 @@
+//! What is known of the heads of atoms, costs and values.
+
 ghost use Rattle.std.specs.Prelude.{IsTrue, List, ◌≡◌, ◌<◌, ◌^◌, ◌+◌, length, drop, IfSome, IfOk};
 ghost use Rattle.std.specs.Prelude.{slice_get};
 ghost use Rattle.pddl_names.specs.declared.role.Word as said;
@@ -10,7 +12,7 @@ use crate::role::{Role, Word};
 use mre_base::List;
 
 /// What is known of heads: how many parameters the predicates and the functions have, and how many
-/// terms and parameters stand behind each word.
+/// terms and parameters follow each word.
 pub struct Heads {
     pub predicates: Arities,
     pub functions: Arities,
@@ -30,7 +32,7 @@ impl Drop for Heads {
 }
 
 impl Heads {
-    // How many terms are due behind a word, where it is a head that is declared.
+    // How many terms a word must have, if it is a declared head.
     fn due_count(&self, words: &List<Word>, word: &Word) -> Option<usize>
         ensures { (known : Declared) → AreHeads known words.now self.now →
             result ≡ due_count known word.now }

@@ -1,3 +1,5 @@
+//! The kinds of things that are declared by names.
+
 ghost use Rattle.std.specs.Prelude.{◌≡◌};
 ghost use Rattle.pddl_names.specs.Kinds.{is_kind};
 

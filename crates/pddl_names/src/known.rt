@@ -1,3 +1,5 @@
+//! What a text, or what comes before it, declares.
+
 ghost use Rattle.std.specs.Prelude.{◌≡◌, map, IfOk};
 ghost use Rattle.pddl_names.specs.Known.{declared_in, declared_before};
 ghost use Rattle.pddl_names.specs.Texts.{type_name, entry_declared, signature_declared};
@@ -7,8 +9,7 @@ use mre_base::{List, NoMemory, Text};
 use std::alloc::Global;
 
 /// What is declared, in written order: the types with their parents, the objects with their types,
-/// and
-/// the predicates and the functions with the types of their parameters.
+/// and the predicates and the functions with the types of their parameters.
 #[derive(Drop)]
 pub struct Known {
     pub types: List<(Text, Text)>,

@@ -1,3 +1,5 @@
+//! Laws of names: each text and each plan is well named or has one first fault.
+
 ghost use Rattle.std.specs.Prelude.{◌≡◌, ◌⊎◌, ◌<◌, ℕ, List, All, length};
 ghost use Rattle.pddl_text.specs.declared.fault.TextFault.{TextFault};
 ghost use Rattle.pddl_text.specs.declared.plan.PlanLine.{PlanLine};
@@ -44,9 +46,8 @@ pub fn law_plans()
         IsFirstFault words bytes fault → IsFirstFault words bytes other → fault ≡ other }
 {}
 
-/// Behind what was declared before, the words of a domain or a problem break no rule of names, or
-/// one
-/// of them has the first fault, never both, and there is one first fault at most.
+/// After what was declared before, the words of a domain or a problem break no rule of names, or one
+/// of them has the first fault, never both, and there is at most one first fault.
 pub fn law_names()
     ensures either { (base : Declared) (words : List Word) →
         IsNamed base words ⊎ ((fault : TextFault) × IsMisnamed base words fault) }

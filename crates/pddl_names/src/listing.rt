@@ -1,3 +1,5 @@
+//! Gathers what the words of a text declare.
+
 ghost use Rattle.std.specs.Prelude.{◌≡◌, ◌+◌, ◌++◌, ◌<◌, length, drop, IfOk, IsTrue};
 ghost use Rattle.pddl_names.specs.Arities.{is_signed, signed_in};
 ghost use Rattle.pddl_names.specs.Groups.{text_at, AreTypePlaces};
@@ -12,7 +14,7 @@ use mre_base::{List, NoMemory, Text};
 use std::alloc::Global;
 
 impl Known {
-    /// With what the words declare behind it. `places` has where the type behind each word stands.
+    /// With what the words declare after it. `places` has the place of each word's type.
     pub fn with_words(
         self,
         alloc: Global,
@@ -43,7 +45,7 @@ fn text_at(alloc: Global, words: &List<Word>, place: u32) -> Result<Text, NoMemo
     }
 }
 
-// With the types or the objects that the words list behind them.
+// With the types or the objects that the words list after them.
 fn with_typed(
     alloc: Global,
     entries: List<(Text, Text)>,
@@ -104,7 +106,7 @@ fn param_types(
     Ok(made)
 }
 
-// With the predicates or the functions that the words declare behind them.
+// With the predicates or the functions that the words declare after them.
 fn with_signed(
     alloc: Global,
     entries: List<(Text, List<Text>)>,

@@ -1,3 +1,5 @@
+//! The fault of a word that breaks a rule of names.
+
 ghost use Rattle.pddl_names.specs.Reading.{broken_at, Answers};
 
 use mre_base::Text;

@@ -1,3 +1,5 @@
+//! The tables that the check of names keeps.
+
 ghost use Rattle.std.specs.Prelude.{◌≡◌, ◌^◌, ◌<◌, length, IfOk};
 ghost use Rattle.pddl_names.specs.Groups.{AreTermCounts};
 ghost use Rattle.pddl_names.specs.Heads.{AreHeads};
@@ -50,14 +52,14 @@ impl Names {
 /// What is declared, and what is known of the words of a text by their places.
 pub struct Tables {
     pub names: Names,
-    /// Where the type behind each word stands.
+    /// The place of each word's type.
     pub types: Vec<u32>,
     pub heads: Heads,
     /// Where each predicate, function and action is declared first.
     pub predicates: NameTable,
     pub functions: NameTable,
     pub actions: NameTable,
-    /// For each value where the first with its function and objects stands.
+    /// For each value, the place of the first with its function and objects.
     pub values: Vec<u32>,
 }
 
@@ -118,9 +120,8 @@ fn heads_of(
     })
 }
 
-/// The action in which a word stands: where the words behind its name begin, and where its
-/// parameters
-/// are declared first.
+/// The action that a word belongs to: where the words after its name begin, and where its
+/// parameters are first declared.
 #[derive(Drop)]
 pub struct Round {
     pub start: usize,

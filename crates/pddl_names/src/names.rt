@@ -1,3 +1,5 @@
+//! Numbers of named things, by their names.
+
 ghost use Rattle.std.specs.Prelude.{◌≡◌, ◌<◌, ◌^◌, ℕ, length, IfOk, OnOk, OnErr};
 ghost use Rattle.pddl_names.specs.Kinds.{ArePlaces};
 ghost use Rattle.pddl_names.specs.Numbers.{number_in, IsTableOf, PutsNumber};
@@ -94,7 +96,7 @@ impl NameTable {
         Ok(table)
     }
 
-    /// Where the parameters of an action are declared first, by the words from a place behind its
+    /// Where the parameters of an action are first declared, by the words from a place after its
     /// name on.
     pub fn of_params(alloc: Global, words: &List<Word>, start: usize) -> Result<NameTable, NoMemory>
         requires few { length words.now < 2 ^ 30 }

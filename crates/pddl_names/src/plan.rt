@@ -1,3 +1,5 @@
+//! The reader of plans.
+
 ghost use Rattle.std.specs.Prelude.{◌≤◌, ◌<◌, ◌^◌, [], length, All, IfOk};
 ghost use Rattle.pddl_text.specs.Answers.{IfFault, AnswersOk, AnswersFault, Gives};
 ghost use Rattle.pddl_text.specs.declared.fault.TextFault as faults;
@@ -14,7 +16,7 @@ use mre_base::List;
 use pddl_text::{PlanLine, ReadStop, read_plan_lines};
 use std::alloc::Global;
 
-/// The steps that lines are.
+/// The steps of lines.
 fn steps_of(
     alloc: Global,
     words: &Vocabulary,
@@ -37,7 +39,7 @@ fn steps_of(
     Ok(steps)
 }
 
-/// The plan that lines are.
+/// The plan of lines.
 fn plan_of(alloc: Global, words: &Vocabulary, lines: &List<PlanLine>) -> Result<Plan, ReadStop>
     requires actions { length words.now.actions < 2 ^ 30 }
     requires objects { length words.now.objects < 2 ^ 30 }
@@ -56,7 +58,7 @@ fn plan_of(alloc: Global, words: &Vocabulary, lines: &List<PlanLine>) -> Result<
     }
 }
 
-/// The plan that bytes are read as.
+/// The plan of bytes.
 fn read_text(alloc: Global, bytes: &[u8], words: &Vocabulary) -> Result<Plan, ReadStop>
     requires short { length bytes.now < 2 ^ 28 }
     requires actions { length words.now.actions < 2 ^ 30 }

@@ -1,3 +1,5 @@
+//! Whether a word declares a name again.
+
 ghost use Rattle.std.specs.Prelude.{◌≡◌, ◌<◌, ◌&&◌, length, take, IfSome, IsTrue, slice_get};
 ghost use Rattle.pddl_names.specs.Kinds.{ArePlaces, is_kind, is_once};
 ghost use Rattle.pddl_names.specs.Naming.{is_again};

@@ -1,3 +1,5 @@
+//! What a word does in a domain or a problem, by the part of the grammar that it met.
+
 ghost use Rattle.std.specs.Prelude.{◌≡◌};
 ghost use Rattle.pddl_names.specs.Params.{is_action_name, is_param};
 ghost use Rattle.pddl_names.specs.Roles.{listed, typed, problem_role, role_at};
@@ -6,9 +8,8 @@ use mre_base::Text;
 use pddl_form::{Listing, Owner, Part, Sort};
 use pddl_text::Place;
 
-/// What an atom says: that an action needs, adds or deletes it, that it is true at the start, or
-/// that
-/// it is to become true.
+/// What an atom says: that an action needs, adds or deletes it, that it is true at the start, or that
+/// it is a goal.
 #[derive(Clone, Copy, Debug)]
 pub enum Says {
     Needed,
@@ -47,7 +48,7 @@ pub enum Role {
     Cost,
     /// The function of a value.
     Value,
-    /// A term or an object behind a head.
+    /// A term or an object after a head.
     Term,
     /// The head of an increase.
     Increase,
@@ -88,7 +89,7 @@ fn listed(listing: Listing) -> Role
     }
 }
 
-// The type behind what is listed.
+// The type of what is listed.
 fn typed(listing: Listing) -> Role
     ensures { result ≡ typed listing }
 {

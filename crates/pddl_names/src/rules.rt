@@ -1,3 +1,5 @@
+//! The five rules of names, word by word.
+
 ghost use Rattle.std.specs.Prelude.{◌≡◌, ◌+◌, ◌<◌, ◌≤◌, ◌&&◌, IsTrue, List, codes, length, map};
 ghost use Rattle.std.specs.Prelude.{take, drop, IfSome, slice_get};
 ghost use Rattle.std.specs.List.{list_any, between};
@@ -24,7 +26,7 @@ use mre_base::{List, Text};
 use pddl_form::Owner;
 
 impl Names {
-    /// The types that the terms behind a head are due to have.
+    /// The types that the terms of a head must have.
     pub fn due_types(&self, word: &Word) -> Option<&List<Text>>
         ensures { (known : Declared) → AreNames known self.now →
             option_map (λ types. types.now) result ≡ due_types known word.now }
@@ -48,7 +50,7 @@ fn stands_at(words: &List<Word>, place: u32, text: &Text) -> bool
     }
 }
 
-// Whether there is a type, and it is another than stands at a place.
+// Whether there is a type, and it is another than the one at a place.
 fn is_other_type(first: Option<&Text>, words: &List<Word>, place: u32) -> bool
     ensures { result ≡ is_other (option_map (λ text. text.now) first.entry) (text_at words.now
         place) }
@@ -66,7 +68,7 @@ fn is_increase(word: &Word, text: &Text) -> bool
     matches!(&word.role, Role::Increase) && is_same(&word.text, text)
 }
 
-// Whether an increase with this text stands before it in its action.
+// Whether an increase with this text comes before it in its action.
 fn is_increased(words: &List<Word>, start: usize, place: usize, text: &Text) -> bool
     requires place { place < length words.now }
     requires start { start ≤ place }
@@ -89,7 +91,7 @@ fn is_of_action(owner: Owner) -> bool
     matches!(owner, Owner::Action)
 }
 
-// Whether a name stands first before a place.
+// Whether a name is first declared before a place.
 fn is_before(table: &NameTable, name: &Text, place: usize) -> bool
     ensures { result ≡ first_before (number_in table.now name.now) place }
 {
@@ -121,10 +123,8 @@ fn is_listed_before(words: &List<Word>, place: usize, name: &Text) -> bool
 
 impl Tables {
     /// Whether a type is listed again with another parent, an object with another type, a
-    /// predicate, a
-    /// function or an action is declared again, a parameter or an increase stands again in one
-    /// action,
-    /// or a function has another number.
+    /// predicate, a function or an action is declared again, a parameter or an increase is repeated
+    /// in one action, or a function has another number.
     pub(crate) fn is_twice(&self, words: &List<Word>, place: usize, round: &Round) -> bool
         requires place { place < length words.now }
         requires round { IsRound words.now place round.now }

@@ -1,3 +1,5 @@
+//! The step of a plan line.
+
 ghost use Rattle.std.specs.Prelude.{◌≡◌, ◌+◌, ◌<◌, ◌^◌, [], length, drop};
 ghost use Rattle.pddl_text.specs.Answers.{Gives};
 ghost use Rattle.pddl_names.specs.Numbers.{IsTableOf, entry_name, word_name};
@@ -31,7 +33,7 @@ fn object_at(
     }
 }
 
-/// The objects that the words behind the first name, where each is of its parameter's type.
+/// The objects that the words after the first give, where each is of its parameter's type.
 fn objects_of(
     alloc: Global,
     words: &Vocabulary,
@@ -54,7 +56,7 @@ fn objects_of(
     Ok(found)
 }
 
-/// The step that a line is.
+/// The step of a line.
 pub fn step_of(
     alloc: Global,
     words: &Vocabulary,

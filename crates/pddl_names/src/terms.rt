@@ -1,3 +1,5 @@
+//! The type of a term.
+
 ghost use Rattle.std.specs.Prelude.{◌≡◌, ◌+◌, ◌-◌, ◌<◌, ◌≤◌, IsTrue, List, length, drop, take};
 ghost use Rattle.std.specs.Prelude.{IfSome, slice_get};
 ghost use Rattle.std.specs.Option.{option_map};
@@ -36,9 +38,8 @@ impl Tables {
         }
     }
 
-    /// The type of a term, if something declares it: a parameter of the action in which a word
-    /// stands,
-    /// or an object.
+    /// The type of a term, if something declares it: a parameter of the action that a word belongs
+    /// to, or an object.
     pub(crate) fn term_type<'a>(
         &'a self,
         words: &'a List<Word>,

@@ -1,9 +1,10 @@
+//! The types with their parents, as trees.
+
 use crate::firsts::TypedList;
 use crate::forests::Node;
 
-/// The types with their parents, by number. Also a parent that isn't listed itself has a number,
-/// and
-/// `object` has one.
+/// The types with their parents, by number. A parent that isn't listed itself also has a number, and
+/// so has `object`.
 pub struct TypeTree {
     pub names: TypedList,
     /// The number of the parent of each.

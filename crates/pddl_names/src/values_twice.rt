@@ -1,3 +1,5 @@
+//! Values of functions that are given again at the same objects.
+
 ghost use Rattle.std.specs.Prelude.{◌≡◌, ◌≤◌, ◌+◌, ◌^◌, ◌<◌, List, ℕ, Some, map, take, drop};
 ghost use Rattle.std.specs.Prelude.{length, IfOk, IfSome, slice_get, unwrap_or};
 ghost use Rattle.std.specs.List.{between};
@@ -27,7 +29,7 @@ fn is_value(role: Role) -> bool
     matches!(role, Role::Value)
 }
 
-// The function at a place, with the objects behind it, of which there are so many.
+// The function at a place, with the given number of objects after it.
 fn call_of(alloc: Global, words: &List<Word>, place: usize, count: usize) -> Result<Call, NoMemory>
     requires few { length words.now < 2 ^ 30 }
     requires inside { place + 1 + count ≤ length words.now }
@@ -62,7 +64,7 @@ fn call_table(
     Ok(table)
 }
 
-/// For each value where the first with its function and objects stands.
+/// For each value, the place of the first with its function and objects.
 pub(crate) fn first_values(
     alloc: Global,
     words: &List<Word>,
@@ -85,7 +87,7 @@ pub(crate) fn first_values(
     Ok(firsts)
 }
 
-// The number at a place before an end, and 0 where there is none.
+// The number at a place before an end, and 0 where there is no number.
 fn number_at(words: &List<Word>, place: usize, end: usize) -> u32
     requires end { end ≤ length words.now }
     ensures { result ≡ unwrap_or (option_and_then (λ (w : said.Word). number w.text)

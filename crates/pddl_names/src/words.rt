@@ -1,3 +1,5 @@
+//! The words of a text, each with its role.
+
 ghost use Rattle.std.specs.Prelude.{◌≡◌, IfOk};
 ghost use Rattle.pddl_names.specs.Roles.{word_of, words_of};
 

@@ -46,7 +46,7 @@ passing_from : {X : Type 0} (t : X → Bool) (i : ℕ) (xs : List X) (p : ℕ) �
 passing_from t i [] p e = absurd (cc)
 passing_from t i (x ∷ xs) p e = passing_by t x xs i p (λ q found. passing_from t (i + 1) xs q found) (t x) refl e
 
--- what stands at the first place passes
+-- the item at the first place passes
 pub passing : {X : Type 0} (t : X → Bool) (xs : List X) (p : ℕ) → position_from t 0 xs ≡ Some p → (y : X) × (slice_get xs p ≡ Some y) × (t y ≡ true)
 passing t xs p e =
     let found = passing_from t 0 xs p e in
@@ -135,7 +135,7 @@ module _ (said : List Word) (named : IsNamed nothing said) where
   pub top_parent : parent_of listed (codes "object") ≡ codes "object"
   top_parent = ⊎_elim (λ there. own_parent (no_return (codes "object") there)) (λ e. e) (listed_or (codes "object"))
 
-  -- no type but `object` is so many parents above itself
+  -- no type but `object` is that many parents above itself
   never : (name : Text) (steps : ℕ) → Listed name → name ≢ codes "object" → steps < length listed + 2 → ancestor listed (suc steps) name ≢ name
   never name steps there apart few same =
       let other : bytes_eq name (codes "object") ≡ false = false_from_ne_true (bytes_eq name (codes "object")) (λ e. apart ((same_numbers-decides name (codes "object")).0 e)) in

@@ -1,4 +1,4 @@
--- What words say is no more than they are.
+-- Words declare no more things than there are words.
 use Rattle.std.proofs.Common.{◌≡◌, ℕ, ◌+◌, ◌≤◌, Bool, true, false, cond, List, [], ◌∷◌, ◌++◌, length, map, ap, ◌∙◌, arith, length-append}
 use Rattle.std.specs.Prelude.{not, filter, codes}
 use Rattle.std.specs.Str.{bytes_eq}

@@ -1,4 +1,4 @@
--- The entries of which none before is the same: one more entry, and where an entry is the first of its name.
+-- The first entry of each name: one more entry, and where an entry is the first of its name.
 use Rattle.std.proofs.Common.{◌≡◌, ℕ, ◌+◌, ◌||◌, suc, Bool, true, false, cond, Some, None, Option, List, [], ◌∷◌, ◌++◌, length, take, drop, refl, sym, ap, ◌∙◌, append-nil, append_assoc, arith}
 use Rattle.std.specs.Prelude.{not, ◌==◌, slice_get, filter}
 use Rattle.std.specs.List.{list_any, position_from}

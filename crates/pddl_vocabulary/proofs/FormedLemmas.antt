@@ -40,7 +40,7 @@ use Rattle.pddl_names.specs.Roles.{listed, typed, role_at, word_of, words_of}
 
 -- ---- bytes
 
--- a byte of a word in lower case may stand in a name
+-- a byte of a word in lower case may be in a name
 lower_later : (b : ℕ) → is_word_byte b ≡ true → is_later_byte (to_ascii_lowercase b) ≡ true
 lower_later b is = grind (arith, nat_tests)
 
@@ -52,7 +52,7 @@ lower_all [] all = refl
 lower_all (b ∷ letters) all =
     and_from (is_later_byte (to_ascii_lowercase b)) (list_all is_later_byte (map to_ascii_lowercase letters)) (lower_later b all.0) (lower_all letters all.1)
 
--- each byte of the word may stand in a name
+-- each byte of the word may be in a name
 abbrev IsLower : List ℕ × Place → Type 0
 IsLower w = list_all is_later_byte w.0 ≡ true
 
@@ -80,7 +80,7 @@ taken_if false n taken = absurd (taken refl)
 free_name : (s : Sort) (n : Next) → only_if (is_free_sort s) n ≢ next.Refused → is_name_sort s ≡ true
 free_name s n taken = or_right (is_reserved s) (is_free_sort s) (taken_if (is_free_sort s) n taken)
 
--- a part of which a word is a name takes names alone
+-- a part whose word is a name takes only names
 naming_taken : (p : Part) (s : Sort) → is_naming (role_at p s) ≡ true → after_word p s ≢ next.Refused → is_name_sort s ≡ true
 naming_taken (part.Names l) s names taken = taken_if (is_name_sort s) (next.One (part.NamesMore l)) taken
 naming_taken (part.NamesMore l) word.Dash names taken = absurd (true≢false (sym names))
@@ -116,7 +116,7 @@ no_parent listing.Types is = cc
 no_parent listing.Constants is = cc
 no_parent listing.Objects is = cc
 
--- a part of which a word is a number takes numbers alone
+-- a part whose word is a number takes only numbers
 numeral_taken : (p : Part) (s : Sort) → role_at p s ≡ role.Numeral → after_word p s ≢ next.Refused → s ≡ word.Numeral
 numeral_taken part.Cost word.Numeral is taken = refl
 numeral_taken part.Cost s is taken = absurd (taken refl)

@@ -22,7 +22,7 @@ use Rattle.pddl_vocabulary.specs.VocabularyTypes.{is_type_name, type_number, Are
 use Rattle.pddl_vocabulary.specs.VocabularyLists.{parent_said, object_said, objects_numbered, is_entry_word, entry_said, entries_said}
 use Rattle.pddl_names.proofs.PlaceLemmas.{first_type}
 
--- ---- a list of entries, each by its word and the words behind it
+-- ---- a list of entries, each by its word and the words after it
 
 module _ {X Y : Type 0} (entries : List X → List Y) (none : entries [] ≡ []) (xs : List X) (whole : List Y) where
   -- what is gathered, and what is still to be gathered from a place on
@@ -49,7 +49,7 @@ module _ {X Y : Type 0} (entries : List X → List Y) (none : entries [] ≡ [])
         ∙ ap (λ l. old ++ l) (sym says)
         ∙ ap (λ l. old ++ entries l) (sym (drop_item xs place x at)) ∙ before
 
-    -- behind the item nothing more is said
+    -- after the item nothing more is declared
     pub gathered_stop : entries (x ∷ drop (place + 1) xs) ≡ [] → Gathered place old → new ≡ old → new ≡ whole
     gathered_stop says before same =
         same ∙ sym (append-nil old) ∙ ap (λ l. old ++ l) (sym says) ∙ ap (λ l. old ++ entries l) (sym (drop_item xs place x at)) ∙ before

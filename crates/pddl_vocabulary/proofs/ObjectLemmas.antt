@@ -1,4 +1,4 @@
--- The objects that words list are those of a vocabulary, alone and behind the objects of a domain.
+-- The objects that words list are those of a vocabulary, by themselves and after the objects of a domain.
 use Rattle.std.proofs.Common.{◌≡◌, ℕ, ◌+◌, ◌<◌, ◌≤◌, Bool, true, false, cond, Some, List, [], ◌∷◌, ◌++◌, length, map, refl, sym, ap, subst, ◌∙◌, append_assoc, arith}
 use Rattle.std.specs.Prelude.{not, nat_lt, filter, slice_get, codes, unwrap_or}
 use Rattle.std.specs.List.{list_any, list_all, position_from}
@@ -86,7 +86,7 @@ module _ (number : Text → ℕ) (entries : List (Text × ℕ)) (small : (name :
       (all_firsts (is_typed entries) (same_by entry_name) (objects_numbered number words) (objects_pass words formed))
       (distinct_firsts same_name (objects_numbered number words))
 
--- ---- behind the objects of a domain
+-- ---- after the objects of a domain
 
 -- no further entry has the name of one that is there
 apart_one : (front rest more : List (Text × ℕ)) (x : Text × ℕ) → list_any (same_name x) (filter (is_no_entry (front ++ x ∷ rest)) more) ≡ false

@@ -1,5 +1,5 @@
--- Words that are formed and break no rule of names say a vocabulary, and words that are formed say one behind that of a domain:
--- the lists that they say are those of a vocabulary.
+-- Well-named words of a domain have a vocabulary, and formed words of a problem have one after that of a domain:
+-- the lists that they declare are those of a vocabulary.
 use Rattle.std.proofs.Common.{◌≡◌, ℕ, true, List, ◌++◌, map, refl, sym, ◌∙◌}
 use Rattle.std.specs.Prelude.{not, filter}
 use Rattle.mre_base.specs.declared.text.Text.{Text}
@@ -52,7 +52,7 @@ module _ (domain : Vocabulary) (said : List Word) (formed : AreFormed said) wher
       (λ i. is_vocabulary domain.types (domain.objects ++ filter (is_no_entry domain.objects) (sym (objects_are (place_in domain_names) domain_names (λ name. refl) said) i)) domain.predicates domain.functions domain.actions)
       ∙ more_sound domain (place_in domain_names) (λ name. refl) said formed
 
-  -- behind the vocabulary of a domain, the words of a problem say the vocabulary of both
+  -- after the vocabulary of a domain, the words of a problem have the vocabulary of both
   pub some_more : (words : Vocabulary) × SaysMore domain said words
   some_more =
       let words : Vocabulary = record {

@@ -1,6 +1,5 @@
--- The vocabulary that the words of a text say. Numbers are places in the lists, whose entries stand
--- in the order in which
--- the text first names them.
+-- The vocabulary that the words of a text declare. Numbers are places in the lists, whose entries are
+-- in the order in which the text first names them.
 use Rattle.std.specs.Prelude.{ℕ, ◌≡◌, not, Bool, true, false, List, [], ◌∷◌, ◌++◌, map, filter}
 use Rattle.std.specs.Prelude.{codes, take_while, Option, None, Some, unwrap_or, if◌then◌else◌}
 use Rattle.std.specs.List.{list_any, position_from}
@@ -32,7 +31,7 @@ use Rattle.pddl_names.specs.Numbers.{entry_name, word_name}
 
 -- ---- lists without repeats, and numbers
 
--- the entries of which none before is the same
+-- the entries that are the same as none before them
 abbrev pub firsts : {X : Type 0} → (X → X → Bool) → List X → List X
 firsts same [] = []
 firsts same (x ∷ xs) = x ∷ filter (λ y. not (same x y)) (firsts same xs)
@@ -76,11 +75,11 @@ objects_said types words =
 abbrev pub signature_said : List Text → Signed → Signature
 signature_said types s = record { name = s.0; params = map (place_in types) s.1 }
 
--- the function that stands for the sum of all costs
+-- the function that means the sum of all costs
 abbrev pub is_total : Signed → Bool
 is_total s = bytes_eq s.0 (codes "total-cost")
 
--- the name of an action, and the words behind it
+-- the name of an action, and the words after it
 abbrev pub ActionWords : Type 0
 ActionWords = Text × List Word
 
@@ -114,7 +113,7 @@ pub record SaysWords (said : List Word) (words : Vocabulary) : Type 0 where
       (λ s. not (is_total s)) (functions_in said))
   pub actions : words.actions ≡ map (action_said (type_names said)) (actions_in said)
 
--- behind the vocabulary of a domain, the words of a problem say the vocabulary of both: its objects
+-- after the vocabulary of a domain, the words of a problem declare the vocabulary of both: its objects
 -- follow the domain's
 pub record SaysMore (domain : Vocabulary) (said : List Word) (words : Vocabulary) : Type 0 where
   pub types : words.types ≡ domain.types

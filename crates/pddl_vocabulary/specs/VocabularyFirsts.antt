@@ -1,4 +1,4 @@
--- Lists of entries with names, in which a name may stand again.
+-- Lists of entries with names, in which a name may be repeated.
 use Rattle.std.specs.Prelude.{ℕ, ◌==◌, not, Bool, false, List, Option, None, Some}
 use Rattle.std.specs.List.{list_any}
 use Rattle.std.specs.Str.{bytes_eq}

@@ -26,12 +26,12 @@ object_said number e = (e.0, number e.1)
 abbrev pub objects_numbered : (Text → ℕ) → List Word → List (Text × ℕ)
 objects_numbered number words = map (object_said number) (objects_listed words)
 
--- the types of the parameters behind a name of this kind
+-- the types of the parameters after a name of this kind
 abbrev pub params_behind : Kind → List Word → List Text
 params_behind kind.Actions behind = types_of (action_params behind)
 params_behind k behind = types_of (own_params behind)
 
--- what stands for the sum of all costs is left out of the functions
+-- the name of the sum of all costs is left out of the functions
 abbrev pub is_left_out : Kind → Text → Bool
 is_left_out kind.Functions name = bytes_eq name (codes "total-cost")
 is_left_out k name = false
@@ -40,7 +40,7 @@ is_left_out k name = false
 abbrev pub is_entry_word : Kind → Word → Bool
 is_entry_word k w = is_kind k w.role && not (is_left_out k w.text)
 
--- the entry of a name, by the words behind it
+-- the entry of a name, by the words after it
 abbrev pub entry_said : (Text → ℕ) → Kind → Word → List Word → Signature
 entry_said number k w behind =
     record { name = w.text; params = map number (params_behind k behind) }

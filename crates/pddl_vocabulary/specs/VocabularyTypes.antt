@@ -14,11 +14,11 @@ is_type_name role.ListedType = true
 is_type_name role.ParentType = true
 is_type_name r = false
 
--- the number of the type with this name, and that of `object` where there is none
+-- the number of the type with this name, and that of `object` where there is no such type
 abbrev pub type_number : TypeNumbers → Text → ℕ
 type_number types name = unwrap_or (number_in types.numbers name) 0
 
--- the first type is `object`, and the places are those of the types behind the words
+-- the first type is `object`, and the places are those of the words' types
 pub record AreTypesOf (words : List Word) (types : TypeNumbers) : Type 0 where
   pub object : type_number types (codes "object") ≡ 0
   pub places : AreTypePlaces words types.places.items

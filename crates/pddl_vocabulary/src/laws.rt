@@ -1,3 +1,5 @@
+//! Law: well-named words have a vocabulary.
+
 ghost use Rattle.std.specs.Prelude.{List};
 ghost use Rattle.model_kit.specs.declared.vocabulary.Vocabulary.{Vocabulary};
 ghost use Rattle.pddl_names.specs.Listings.{nothing};
@@ -6,9 +8,8 @@ ghost use Rattle.pddl_names.specs.declared.role.Word.{Word};
 ghost use Rattle.pddl_vocabulary.specs.Formed.{AreFormed};
 ghost use Rattle.pddl_vocabulary.specs.Values.{SaysWords, SaysMore};
 
-/// Words that are formed and break no rule of names say a vocabulary, and behind the vocabulary of
-/// a
-/// domain words that are formed say one of both.
+/// Well-named, formed words of a domain have a vocabulary, and after the vocabulary of a domain formed
+/// words of a problem have one of both.
 pub fn law_vocabularies()
     ensures some { (said : List Word) → AreFormed said → IsNamed nothing said →
         (words : Vocabulary) × SaysWords said words }

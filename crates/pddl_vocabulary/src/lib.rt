@@ -1,4 +1,4 @@
-//! The vocabulary that the words of a domain say, and that of a problem behind its domain's.
+//! The vocabulary of the words of a domain, and of a problem after its domain's.
 #![tactic(auto)]
 
 mod formed;

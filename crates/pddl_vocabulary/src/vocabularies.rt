@@ -1,3 +1,5 @@
+//! The vocabulary of a domain, and of a problem after its domain.
+
 ghost use Rattle.std.specs.Prelude.{◌+◌, ◌<◌, ◌≤◌, ◌^◌, length, IfOk};
 ghost use Rattle.pddl_vocabulary.specs.Formed.{AreFormed};
 ghost use Rattle.pddl_names.specs.Listings.{nothing};
@@ -12,10 +14,8 @@ use mre_base::{Copied, List, NoMemory};
 use pddl_names::{Kind, NameTable, Word, type_places};
 use std::alloc::Global;
 
-/// The vocabulary that the words of a domain say: types, objects, predicates, functions and actions
-/// in
-/// the order in which the text first names them, `object` before the other types, and `total-cost`
-/// not
+/// The vocabulary of the words of a domain: types, objects, predicates, functions and actions in the
+/// order in which the text first names them, `object` before the other types, and `total-cost` not
 /// among the functions.
 pub fn vocabulary_of(alloc: Global, said: &List<Word>) -> Result<Vocabulary, NoMemory>
     requires few { length said.now < 2 ^ 29 }
@@ -42,8 +42,8 @@ pub fn vocabulary_of(alloc: Global, said: &List<Word>) -> Result<Vocabulary, NoM
     })
 }
 
-/// The vocabulary that the words of a problem say behind that of its domain: the domain's, with the
-/// problem's objects behind the domain's constants.
+/// The vocabulary of the words of a problem after that of its domain: the domain's, with the
+/// problem's objects after the domain's constants.
 pub fn vocabulary_with(
     alloc: Global,
     domain: &Vocabulary,

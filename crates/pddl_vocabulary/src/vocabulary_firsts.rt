@@ -1,3 +1,5 @@
+//! The first entries of names, and further objects.
+
 ghost use Rattle.std.specs.Prelude.{◌≡◌, ◌<◌, ◌^◌, ◌++◌, filter, length, IfOk};
 ghost use Rattle.pddl_names.specs.Kinds.{ArePlaces};
 ghost use Rattle.pddl_names.specs.Numbers.{number_in, IsTableOf, entry_name};
@@ -19,7 +21,7 @@ fn is_at(table: &NameTable, name: &Text, place: usize) -> bool
     }
 }
 
-/// The entries of which none before has the same name.
+/// The first entry of each name.
 pub fn firsts_of<T: Named + Copied>(alloc: Global, entries: &List<T>) -> Result<List<T>, NoMemory>
     requires few { length entries.now < 2 ^ 30 }
     ensures ok { IfOk result (λ made. made ≡ firsts (same_by T.name_of) entries.now) }
@@ -35,7 +37,7 @@ pub fn firsts_of<T: Named + Copied>(alloc: Global, entries: &List<T>) -> Result<
     Ok(made)
 }
 
-/// Objects, and behind them those further ones whose names none of them has.
+/// Objects, and after them those further ones whose names none of them has.
 pub fn with_further(
     alloc: Global,
     objects: &List<(Text, u32)>,

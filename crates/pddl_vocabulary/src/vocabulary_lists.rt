@@ -1,3 +1,5 @@
+//! The objects, predicates, functions and actions that words declare.
+
 ghost use Rattle.std.specs.Prelude.{◌≡◌, ◌≤◌, ◌<◌, ◌+◌, drop, length, map, IfOk};
 ghost use Rattle.pddl_names.specs.Listings.{own_params, action_params, types_of};
 ghost use Rattle.pddl_vocabulary.specs.VocabularyTypes.{type_number, AreTypesOf};
@@ -29,7 +31,7 @@ pub fn objects_listed(
     Ok(made)
 }
 
-// The numbers of the types of the parameters behind the name of a predicate or a function.
+// The numbers of the types of the parameters after the name of a predicate or a function.
 fn own_types(
     alloc: Global,
     words: &List<Word>,
@@ -51,7 +53,7 @@ fn own_types(
     Ok(made)
 }
 
-// The numbers of the types of the parameters behind the name of an action.
+// The numbers of the types of the parameters after the name of an action.
 fn action_types(
     alloc: Global,
     words: &List<Word>,
@@ -75,7 +77,7 @@ fn action_types(
     Ok(made)
 }
 
-// The numbers of the types of the parameters behind a name of this kind.
+// The numbers of the types of the parameters after a name of this kind.
 fn params_behind(
     alloc: Global,
     words: &List<Word>,

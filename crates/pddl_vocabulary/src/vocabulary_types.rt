@@ -1,3 +1,5 @@
+//! The types that words declare, by number.
+
 ghost use Rattle.std.specs.Prelude.{◌≡◌, ◌+◌, ◌<◌, ◌^◌, ◌∷◌, codes, drop, length, map, IfOk};
 ghost use Rattle.pddl_names.specs.Kinds.{ArePlaces};
 ghost use Rattle.pddl_names.specs.Listings.{type_behind};
@@ -9,8 +11,7 @@ use mre_base::{List, NoMemory, Text};
 use pddl_names::{Kind, NameTable, Role, Word};
 use std::alloc::Global;
 
-/// The numbers of types by their names, and where the type stands that is behind each word of a
-/// group.
+/// The numbers of types by their names, and the place of the type of each word of a group.
 pub struct TypeNumbers {
     pub numbers: NameTable,
     pub places: Vec<u32>,
@@ -26,7 +27,7 @@ impl Drop for TypeNumbers {
 }
 
 impl TypeNumbers {
-    /// The number of the type behind a word.
+    /// The number of the type of a word.
     pub fn behind(&self, words: &List<Word>, place: usize) -> u32
         requires place { place < length words.now }
         requires types { AreTypesOf words.now self.now }
