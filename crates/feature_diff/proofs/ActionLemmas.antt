@@ -1,4 +1,4 @@
--- What the knowledge and the cost of an action tell.
+-- The differences on the knowledge and the cost of an action.
 use Rattle.std.proofs.Common.{◌≡◌, ◌≢◌, ℕ, ◌+◌, ◌*◌, ◌<◌, ◌&&◌, zero, suc, Bool, true, false, Some, List, [], ◌∷◌, length, refl, sym, ap, subst, ◌∙◌, arith}
 use Rattle.std.specs.Prelude.{◌==◌, not, nat_lt, slice_get}
 use Rattle.std.specs.Bool.{Decides}

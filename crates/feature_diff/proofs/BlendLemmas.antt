@@ -53,7 +53,7 @@ module _ {X : Type 0} (test : X → Bool) (wanted : Bool) (xs : List X) (i : ℕ
       ∙ ap (λ c. (begin ++ those test wanted (take i xs)) ++ cond c (x ∷ []) []) (sym miss)
       ∙ sym kept_split
 
--- ---- what stands in a blended list
+-- ---- what a blended list contains
 
 beq_same : (b c : Bool) → b ≡ c → beq b c ≡ true
 beq_same true c e = let same : c ≡ true = sym e in rw same refl
@@ -101,7 +101,7 @@ or_false : (b : Bool) → (b || false) ≡ b
 or_false true = refl
 or_false false = refl
 
--- an entry stands in a blended list where it stands in the list that its test picks
+-- an entry is in a blended list where it is in the list that its test picks
 any_blended : {X : Type 0} (hits test : X → Bool) (b : Bool) → ((x : X) → hits x ≡ true → test x ≡ b) → (ps us : List X) → list_any hits (blended test ps us) ≡ cond b (list_any hits ps) (list_any hits us)
 any_blended hits test true agree ps us =
     list_any-append hits (those test true ps) (those test false us)
@@ -113,7 +113,7 @@ any_blended hits test false agree ps us =
     ∙ ap (λ c. c || list_any hits (those test false us)) (any_dropped hits test false agree ps)
     ∙ any_kept hits test false agree us
 
--- ---- the value that stands in a blended list
+-- ---- the value in a blended list
 
 abbrev Key : Type 0
 Key = ℕ × List ℕ × ℕ

@@ -1,4 +1,4 @@
--- What the initial facts and the goal facts of two models tell.
+-- The differences on initial facts and goal facts of two models.
 use Rattle.std.proofs.Common.{◌≡◌, Bool, None, List, refl, subst, arith, ⊎_elim, inr}
 use Rattle.std.specs.Prelude.{◌⊎◌, IsTrue, All, Contains}
 use Rattle.std.specs.List.{flat_map}

@@ -1,4 +1,4 @@
--- What two lists of features tell.
+-- The differences of two lists of features.
 use Rattle.std.proofs.Common.{◌≡◌, ◌≢◌, ℕ, Bool, true, false, None, List, refl, sym, ap, subst, ◌∙◌, ⊎_elim, inl, inr}
 use Rattle.std.specs.Prelude.{◌⊎◌, not, Contains}
 use Rattle.std.specs.Bool.{Decides}

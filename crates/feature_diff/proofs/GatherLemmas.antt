@@ -39,7 +39,7 @@ stands_within form xs bound f (Some place) stands = some_map (slice_get xs place
     some_map None is e = absurd (cc)
     some_map (Some x) is e = slice_get_within xs place x is
 
--- each row stands within the lists
+-- each row is within the lists
 pub rows_within : {X : Type 0} (form : X → List ℕ) (planner user : List X) (rows : List Row) → AreRows (map form planner) (map form user) rows → All (AreWithin planner user) rows
 rows_within form planner user rows are =
     All-weaker (IsRow (map form planner) (map form user)) (AreWithin planner user)

@@ -1,4 +1,4 @@
--- What two lists tell, form by form, are all differences of a group in order.
+-- The differences of two lists, form by form, are all differences of a group in order.
 use Rattle.std.proofs.Common.{◌≡◌, ◌≢◌, ℕ, ◌≤◌, zero, suc, Bool, true, false, Option, Some, None, List, [], ◌∷◌, ◌++◌, length, get_or, map, refl, sym, ap, subst, ◌∙◌, arith, ⊎_elim, inl, inr}
 use Rattle.std.specs.Prelude.{◌⊎◌, slice_get, All, AllPairs, Contains}
 use Rattle.std.specs.List.{flat_map}
@@ -55,9 +55,9 @@ module _ (planner user : Model) (g : ℕ) where
   BothTold p None = meaning planner p ≡ meaning user p
   BothTold p (Some d) = IsOne planner user (λ n. n ≡ g) d × (place_of d ≡ p)
 
-  -- ---- from what each row tells to the whole list
+  -- ---- from the difference of each row to the whole list
 
-  -- what one row tells
+  -- the difference of one row
   record IsTold (form : List ℕ) (ds : List Difference) : Type 0 where
     each : All IsHere ds
     printed_as : All (λ d. printed planner.words (place_of d) ≡ form) ds
@@ -107,7 +107,7 @@ module _ (planner user : Model) (g : ℕ) where
     abbrev IsIn : X → Type 0
     IsIn x = Contains ps x ⊎ Contains us x
 
-    -- what is told tells the models apart, and all that they have apart in the group is told
+    -- each listed place is one where the models differ, and each place of the group where they differ is listed
     pub record Tells : Type 0 where
       pub printed_as : (x : X) → printed planner.words (place x) ≡ form x
       pub in_group : (x : X) → group planner.words (place x) ≡ g
@@ -119,7 +119,7 @@ module _ (planner user : Model) (g : ℕ) where
       pub others : (p : Place) → group planner.words p ≡ g → (meaning planner p ≡ meaning user p) ⊎ ((x : X) × (Contains ps x ⊎ Contains us x) × (p ≡ place x))
 
     module _ (tells : Tells) where
-      -- what a row tells, and all that stands under its form
+      -- the difference of a row, and all entries with its form
       abbrev IsGood : List ℕ → List Difference → Type 0
       IsGood f ds = IsTold f ds × ((z : X) → IsIn z → form z ≡ f → Agrees (place z) ⊎ Contains (places_of ds) (place z))
 

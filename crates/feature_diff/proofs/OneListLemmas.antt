@@ -36,7 +36,7 @@ module _ {X : Type 0} (R : X → X → Type 0) (one_way : (x y : X) → R x y �
       (λ later. ⊎_elim (λ e. e) (λ other. absurd (one_way x y (head_before x xs first y other) (head_before y ys second x later))) (first_or_later y x xs in_x))
       (first_or_later x y ys in_y)
 
-  -- what stands after the first stands after the other's first
+  -- what comes after the first comes after the other's first
   pub rest_in : (x y : X) (xs ys : List X) → x ≡ y → AllPairs R (x ∷ xs) → ((z : X) → Contains (x ∷ xs) z → Contains (y ∷ ys) z) → (z : X) → Contains xs z → Contains ys z
   rest_in x y xs ys same pairs into z there =
       ⊎_elim

@@ -1,4 +1,4 @@
--- What the preconditions, adds and deletes of an action tell.
+-- The differences on preconditions, adds and deletes of an action.
 use Rattle.std.proofs.Common.{◌≡◌, ℕ, ◌<◌, ◌^◌, false, Some, None, List, length, refl, sym, ap, subst, ◌∙◌, arith, ⊎_elim, inr}
 use Rattle.std.specs.Prelude.{◌⊎◌, IsTrue, All, Contains, slice_get}
 use Rattle.std.specs.List.{flat_map, list_any}

@@ -31,7 +31,7 @@ tie_text key q tie = (bytes_eq-Decides key.text q.text).0 (sym (is_eq-slice_cmp 
 text_tie : (key q : Form) → key.text ≡ q.text → is_eq (form_cmp key q) ≡ true
 text_tie key q same = is_eq-slice_cmp key.text q.text ∙ (bytes_eq-Decides key.text q.text).1 same
 
--- what is said of a form stays so when another form stands at the next place
+-- what holds of a form stays so when another form is at the next place
 stands_more : (forms : List (List ℕ)) (place : ℕ) (form q : List ℕ) (o : Option ℕ) → slice_get forms place ≡ Some form → form ≢ q → StandsAt forms place q o → StandsAt forms (place + 1) q o
 stands_more forms place form q (Some i) at apart before = before
 stands_more forms place form q None at apart before = λ j lt is.
@@ -84,11 +84,11 @@ row_of entry = record { form = entry.0.text; spots = entry.1 }
 form_total : IsTotalOrder form_cmp
 form_total = on_total (λ f. f.text) nat_list_cmp_total
 
--- what stands at a place is contained
+-- the item at a place is contained
 pub contains_at : {X : Type 0} (xs : List X) (i : ℕ) (x : X) → slice_get xs i ≡ Some x → Contains xs x
 contains_at xs i x at = (i, slice_get_within xs i x at, get_or_from_slice_get xs i x x at)
 
--- and what is contained stands somewhere
+-- and what is contained is at some place
 pub place_of_contained : {X : Type 0} (xs : List X) (x : X) → Contains xs x → (i : ℕ) × (slice_get xs i ≡ Some x)
 place_of_contained xs x (i, lt, is) = (i, slice_get-get_or xs i x lt ∙ ap Some is)
 

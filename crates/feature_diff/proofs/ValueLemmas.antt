@@ -1,4 +1,4 @@
--- What the function values of two models tell, and what stands at actions that the vocabulary lacks.
+-- The differences on function values of two models, and the places of actions that the vocabulary lacks.
 use Rattle.std.proofs.Common.{◌≡◌, ◌≢◌, ℕ, ◌+◌, ◌*◌, ◌≤◌, ◌&&◌, zero, suc, Bool, true, false, cond, Option, Some, None, List, [], ◌∷◌, length, map, refl, sym, ap, subst, ◌∙◌, arith, ⊎_elim, inl, inr}
 use Rattle.std.specs.Prelude.{◌⊎◌, ◌==◌, not, nat_lt, IsTrue, All, AllPairs, Contains, slice_get}
 use Rattle.std.specs.List.{flat_map, list_any}

@@ -1,5 +1,5 @@
--- What a difference says: its place, and what stands there in the planner's model and in the
--- user's. And the list of all differences.
+-- A difference: its place, and the content of the place in the planner's model and in the user's. And
+-- the list of all differences.
 use Rattle.std.specs.Prelude.{ℕ, ◌≡◌, ◌≤◌, ◌<◌, not, IsTrue, List, map, length, All, Result, Ok}
 use Rattle.std.specs.Prelude.{Err}
 use Rattle.std.specs.Ordering.{nat_cmp}
@@ -31,7 +31,7 @@ place_of (Value function objects planner user) = place.Value function objects
 abbrev pub places_of : List Difference → List Place
 places_of differences = map place_of differences
 
--- what stands there in the planner's model
+-- its content in the planner's model
 abbrev pub planner_content : Difference → Content
 planner_content (Init atom has) = Feature has
 planner_content (Goal atom has) = Feature has
@@ -42,7 +42,7 @@ planner_content (Del action atom has) = Feature has
 planner_content (Cost action planner user) = Price planner
 planner_content (Value function objects planner user) = Worth planner
 
--- what stands there in the user's model: a feature that the other has not, or another cost or value
+-- its content in the user's model: a feature that the other hasn't, or another cost or value
 abbrev pub user_content : Difference → Content
 user_content (Init atom has) = Feature (not has)
 user_content (Goal atom has) = Feature (not has)
@@ -77,7 +77,7 @@ pub record AreDifferencesOf (planner user : Model) (differences : List Differenc
   pub each : All (Says (meaning planner) (meaning user)) differences
   pub fit : All (FitsWords planner.words) differences
 
--- there are so many differences, and they are more than 256
+-- this is the number of differences, and it is more than 256
 pub record AreTooMany (planner user : Model) (found : ℕ) : Type 0 where
   pub places : List Place
   pub all : AreDifferences planner.words (meaning planner) (meaning user) places

@@ -1,5 +1,5 @@
--- Differences that are counted, and kept while they are at most 256. What two lists tell, form by
--- form.
+-- Differences that are counted, and kept while they are at most 256. The differences of two lists,
+-- form by form.
 use Rattle.std.specs.Prelude.{ℕ, ◌≡◌, ◌+◌, ◌<◌, ◌≤◌, Bool, true, false, Option, Some, None, List}
 use Rattle.std.specs.Prelude.{[], ◌∷◌, ◌++◌, length, map, flat_map, slice_get}
 use Rattle.std.specs.Option.{option_to_list}
@@ -13,7 +13,7 @@ pub record Grows (before after : Gathered) (differences : List Difference) : Typ
   pub counted : after.found ≡ before.found + length differences
   pub kept : after.found ≤ 256 → after.kept ≡ before.kept ++ differences
 
--- where something stands, if anywhere, is within the list
+-- the place of something, if it has one, is within the list
 abbrev pub IsWithin : {X : Type 0} → Option ℕ → List X → Type 0
 IsWithin None xs = Unit {0}
 IsWithin (Some place) xs = place < length xs
@@ -44,7 +44,7 @@ module _ {X : Type 0} (alone : X → Bool → Difference) (both : X → X → Op
   abbrev pub row_told : List X → List X → Row → List Difference
   row_told planner user row = spots_told planner user row.spots.planner row.spots.user
 
-  -- what two lists tell, form by form, came to the differences so far
+  -- the differences of two lists, form by form, were added to those so far
   abbrev pub AllTold : (X → List ℕ) → List X → List X → Gathered → Gathered → Type 0
   AllTold form planner user before after =
       (rows : List Row) × AreRows (map form planner) (map form user) rows

@@ -8,7 +8,7 @@ use Rattle.feature_diff.specs.declared.gathered.Gathered.{Gathered}
 use Rattle.feature_diff.specs.Differing.{place_of, places_of, Says, FitsWords}
 use Rattle.feature_diff.specs.Gathering.{Grows}
 
--- the difference is one of two models, and stands in one of these groups
+-- the difference is one of two models, in one of these groups
 pub record IsOne (planner user : Model) (In : ℕ → Type 0) (difference : Difference) : Type 0 where
   pub says : Says (meaning planner) (meaning user) difference
   pub differ : meaning planner (place_of difference) ≢ meaning user (place_of difference)

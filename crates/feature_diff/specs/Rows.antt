@@ -13,23 +13,23 @@ use Rattle.feature_diff.specs.declared.rows.Row.{Row}
 abbrev pub form_cmp : Form → Form → Ordering
 form_cmp = on (λ f. f.text) (slice_cmp nat_cmp)
 
--- the form stands at this place of a list, or nowhere before the bound
+-- the form is at this place of a list, or nowhere before the bound
 abbrev pub StandsAt : List (List ℕ) → ℕ → List ℕ → Option ℕ → Type 0
 StandsAt forms bound form None = (place : ℕ) → place < bound → slice_get forms place ≢ Some form
 StandsAt forms bound form (Some place) = slice_get forms place ≡ Some form
 
--- where a form stands, if the look-up found something
+-- the places of a form, if the look-up found something
 abbrev pub spots_of : Option Spots → Spots
 spots_of None = record { planner = None; user = None }
 spots_of (Some spots) = spots
 
--- the map tells where each form stands among the first forms of two lists
+-- the map has the places of each form among the first forms of two lists
 abbrev pub IsTable : List (List ℕ) → ℕ → List (List ℕ) → ℕ → BTreeMap Form Spots → Type 0
 IsTable planner m user n table =
     (form : Form) → StandsAt planner m form.text (spots_of (get form_cmp table form)).planner
     × StandsAt user n form.text (spots_of (get form_cmp table form)).user
 
--- the planner's list has the form at this place, and the second map tells so
+-- the planner's list has the form at this place, and the second map says so
 abbrev pub NotesPlanner : BTreeMap Form Spots → BTreeMap Form Spots → List ℕ → ℕ → Type 0
 NotesPlanner before after form place =
     (planner user : List (List ℕ)) (n : ℕ) → slice_get planner place ≡ Some form
@@ -41,13 +41,13 @@ NotesUser before after form place =
     (planner user : List (List ℕ)) (m : ℕ) → slice_get user place ≡ Some form
     → IsTable planner m user place before → IsTable planner m user (place + 1) after
 
--- the row tells where its form stands in two lists
+-- the row has the places of its form in two lists
 abbrev pub IsRow : List (List ℕ) → List (List ℕ) → Row → Type 0
 IsRow planner user row =
     StandsAt planner (length planner) row.form row.spots.planner
     × StandsAt user (length user) row.form row.spots.user
 
--- the rows tell where each form of two lists stands, in ASCII order and each once
+-- the rows have the places of each form of two lists, in ASCII order and each once
 pub record AreRows (planner user : List (List ℕ)) (rows : List Row) : Type 0 where
   pub each : All (IsRow planner user) rows
   pub ordered : AllPairs (λ r s. IsPrintedBefore r.form s.form) rows

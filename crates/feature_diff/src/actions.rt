@@ -1,3 +1,5 @@
+//! Differences on whether an action is known, and on its cost.
+
 ghost use Rattle.std.specs.Prelude.{◌≡◌, ◌+◌, ◌*◌, ◌<◌, OnOk, length};
 ghost use Rattle.model_kit.specs.Places.{Feature, Knows, meaning};
 ghost use Rattle.feature_diff.specs.Telling.{same_cost};
@@ -116,8 +118,8 @@ fn tell_action(
     tell_cost(alloc, planner, user, action, gathered)
 }
 
-// Tells all differences of all actions. So many actions that a number is none of the machine's are
-// taken for want of memory.
+// Adds all differences of all actions. More actions than a number of 32 bits counts are answered as
+// running out of memory.
 pub(crate) fn tell_actions(
     alloc: Global,
     planner: &Model,

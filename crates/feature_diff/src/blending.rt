@@ -1,3 +1,5 @@
+//! The user's model with some places as the planner has them.
+
 ghost use Rattle.std.specs.Prelude.{◌≡◌, ◌++◌, ◌<◌, ◌≤◌, Some, IfOk, OnOk, length, slice_get};
 ghost use Rattle.feature_diff.specs.Telling.{place_in, part_of};
 ghost use Rattle.feature_diff.specs.Blending.{is_told_at, those, blended, blended_schema};
@@ -118,7 +120,7 @@ fn blend_schema(
     })
 }
 
-// All schemas. So many actions that a number is none of the machine's are taken for want of memory.
+// All schemas. More actions than a number of 32 bits counts are answered as running out of memory.
 fn blend_schemas(
     alloc: Global,
     planner: &List<Schema>,

@@ -1,3 +1,5 @@
+//! A difference of two models.
+
 use model_kit::{CostExpr, GroundAtom, SchemaAtom};
 use mre_base::List;
 

@@ -1,3 +1,5 @@
+//! Differences on initial facts and goal facts.
+
 ghost use Rattle.std.specs.Prelude.{◌≡◌, None, IsTrue, OnOk};
 ghost use Rattle.model_kit.specs.Vocabulary.{is_ground_atom};
 ghost use Rattle.model_kit.specs.Printed.{atom_form};

@@ -1,3 +1,5 @@
+//! Differences so far: counted, and kept while they are at most 256.
+
 ghost use Rattle.std.specs.Prelude.{◌≡◌, [], ◌∷◌, OnOk};
 
 use crate::Difference;
@@ -28,7 +30,7 @@ impl Gathered {
         }
     }
 
-    // One more difference. So many that their number is none of the machine's are taken for want of
+    // One more difference. More than a number of 32 bits counts are answered as running out of
     // memory.
     pub(crate) fn add(&mut self, difference: Difference) -> Result<(), NoMemory>
         ensures ok { OnOk result (Grows self.old self.new (difference ∷ [])) }

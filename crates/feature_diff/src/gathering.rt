@@ -1,3 +1,5 @@
+//! All differences of two models, group by group.
+
 ghost use Rattle.std.specs.Prelude.{◌≡◌, ◌+◌, ◌*◌, IfOk, length};
 ghost use Rattle.feature_diff.specs.Parts.{IsGathered};
 

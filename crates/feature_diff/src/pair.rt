@@ -1,3 +1,5 @@
+//! A pair of models that agree, its differences, and the user's model after some of them.
+
 ghost use Rattle.std.specs.Prelude.{ℕ, ◌≡◌, ◌≤◌, [], ◌∷◌, length, IsTrue, IfOk};
 ghost use Rattle.std.specs.FinSet as set;
 ghost use Rattle.model_kit.specs.Places.{meaning};
@@ -94,7 +96,7 @@ impl Pair {
         &self.planner.words
     }
 
-    /// All differences in their order, each with what stands there in either model.
+    /// All differences in their order, each with its content in both models.
     pub fn differences(&self, alloc: Global) -> Result<List<Difference>, DiffStop>
         ensures ok { IfOk result (AreDifferencesOf self.now.planner self.now.user) }
         ensures few { IfOk result (λ differences. length differences ≤ 256) }

@@ -1,3 +1,5 @@
+//! The printed forms of two lists side by side, in ASCII order.
+
 ghost use Rattle.std.specs.Prelude.{◌≡◌, IfOk, OnOk};
 ghost use Rattle.std.specs.BTreeMap.{get};
 ghost use Rattle.feature_diff.specs.Rows.{form_cmp, spots_of, NotesPlanner, NotesUser, AreRows};
@@ -8,14 +10,14 @@ use mre_base::{List, NoMemory, Text};
 use std::alloc::Global;
 use std::collections::BTreeMap;
 
-// Where a printed form stands in the planner's list and in the user's, counted from 0, if it does.
+// The place of a printed form in the planner's list and in the user's, counted from 0, if it has one.
 #[derive(Clone, Copy)]
 pub(crate) struct Spots {
     pub(crate) planner: Option<usize>,
     pub(crate) user: Option<usize>,
 }
 
-// A printed form, and where it stands.
+// A printed form, and its places.
 pub(crate) struct Row {
     pub(crate) form: Text,
     pub(crate) spots: Spots,
@@ -27,7 +29,7 @@ impl Drop for Row {
     }
 }
 
-// The forms of two lists in ASCII order, each once, with where it stands in either.
+// The forms of two lists in ASCII order, each once, with its places in both.
 pub(crate) fn align(
     alloc: Global,
     planner: &List<Text>,
@@ -58,7 +60,7 @@ fn spots_at(table: &BTreeMap<Form, Spots>, form: &Form) -> Spots
     }
 }
 
-// The form stands at this place of the planner's list.
+// The form is at this place of the planner's list.
 fn note_planner(
     alloc: Global,
     table: &mut BTreeMap<Form, Spots>,
@@ -78,7 +80,7 @@ fn note_planner(
     Ok(())
 }
 
-// The form stands at this place of the user's list.
+// The form is at this place of the user's list.
 fn note_user(
     alloc: Global,
     table: &mut BTreeMap<Form, Spots>,

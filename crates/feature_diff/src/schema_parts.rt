@@ -1,3 +1,5 @@
+//! Differences on preconditions, adds and deletes.
+
 ghost use Rattle.std.specs.Prelude.{◌≡◌, ◌<◌, None, OnOk, length};
 ghost use Rattle.model_kit.specs.Vocabulary.{IsSchemaAtom};
 ghost use Rattle.model_kit.specs.Printed.{schema_atom_form};

@@ -1,3 +1,5 @@
+//! The difference at a place of a model, looked up in a list of differences.
+
 ghost use Rattle.std.specs.Prelude.{◌≡◌, ◌<◌, ◌≤◌, length, IfSome};
 ghost use Rattle.std.specs.FinSet as set;
 ghost use Rattle.model_kit.specs.Differences.{number_from};
@@ -14,7 +16,7 @@ use crate::worths::Worths;
 use model_kit::{GroundAtom, SchemaAtom, are_same_terms};
 use mre_base::{Copied, List, Places};
 
-/// What stands at a place of a model, of one kind of places.
+/// The content of a place of a model, of one kind of places.
 pub trait Spot<K>: Copied {
     ghost use Rattle.model_kit.specs.Places.{Place};
 

@@ -1,3 +1,5 @@
+//! The differences of two lists, form by form.
+
 ghost use Rattle.std.specs.Prelude.{◌≡◌, Bool, All, map, flat_map, IfOk, OnOk, Option};
 ghost use Rattle.std.specs.Option.{option_to_list};
 ghost use Rattle.model_kit.specs.declared.vocabulary.Vocabulary.{Vocabulary};
@@ -12,7 +14,7 @@ use model_kit::Vocabulary;
 use mre_base::{List, NoMemory, Text};
 use std::alloc::Global;
 
-// What stands in a list of either model, under a printed form.
+// An entry of a list of a model, with its printed form.
 pub(crate) trait Told<K> {
     ghost use Rattle.std.specs.Prelude.{List as ListOf, ℕ};
     ghost use Rattle.feature_diff.specs.declared.difference.Difference.{Difference as AnyDifference};
@@ -60,7 +62,7 @@ fn forms<K, T: Told<K>>(
     Ok(forms)
 }
 
-// The difference of what stands at two places, one in either list.
+// The difference between the entries at two places, one in each list.
 fn told_at<K, T: Told<K>>(
     alloc: Global,
     kind: &K,

@@ -1,3 +1,5 @@
+//! Differences on function values.
+
 ghost use Rattle.std.specs.Prelude.{◌≡◌, ◌+◌, ◌*◌, IsTrue, OnOk, length, map};
 ghost use Rattle.model_kit.specs.Vocabulary.{is_object_of, fits_signature};
 ghost use Rattle.model_kit.specs.Printed.{form as printed_form, name_of, object_name};

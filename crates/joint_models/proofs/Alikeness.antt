@@ -101,7 +101,7 @@ has_from words entries name s at = ap (option_map (λ s. map (type_name words) s
 pub has_none : (words : Vocabulary) (entries : List Signature) (name : List ℕ) → entry_named entries name ≡ None → has_of words entries name ≡ None
 has_none words entries name at = ap (option_map (λ s. map (type_name words) s.params)) at
 
--- the entry behind what is had
+-- the entry that was found
 pub has_entry : (words : Vocabulary) (entries : List Signature) (name : List ℕ) (types : List (List ℕ)) → has_of words entries name ≡ Some types → (s : Signature) × (entry_named entries name ≡ Some s) × (map (type_name words) s.params ≡ types)
 has_entry words entries name types had =
     ⊎_elim

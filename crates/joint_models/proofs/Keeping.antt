@@ -63,7 +63,7 @@ type_number words n lt =
     (λ i. number_of (sym (typed_names_are words.types) i) (ap (λ o. option_map_or (λ entry. entry.0) o []) e.1 i))
     ∙ number_is (entries_in Types words) (entries_apart Types words) n (typed_entry e.0) (typed_at words.types n e.0 e.1)
 
--- so many parents up, however many
+-- any number of parents up
 below_any : (types : List (List ℕ × ℕ)) → TypeFacts types → (type : ℕ) → type < length types → (n above : ℕ) → ancestor types n type ≡ above → is_of_type types type above ≡ true
 below_any types facts type listed zero above is = from_steps_up types type above zero (omega arith) is
 below_any types facts type listed (suc n) above is =

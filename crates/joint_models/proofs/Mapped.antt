@@ -74,7 +74,7 @@ pointwise_kept test test_new f g kept (x ∷ xs) (y ∷ ys) fit =
     let parts = and_parts (test x y) (pointwise test xs ys) fit in
     and_from (test_new (f x) (g y)) (pointwise test_new (map f xs) (map g ys)) (kept x y parts.0) (pointwise_kept test test_new f g kept xs ys parts.1)
 
--- the item behind an item of a mapped list
+-- the item that an item of a mapped list comes from
 pub at_mapped : {X Y : Type 0} (f : X → Y) (xs : List X) (n : ℕ) (y : Y) → slice_get (map f xs) n ≡ Some y → (x : X) × (slice_get xs n ≡ Some x) × (f x ≡ y)
 at_mapped f [] n y at = absurd (cc)
 at_mapped f (x ∷ xs) zero y at = (x, refl, (let is : f x ≡ y = cc in is))

@@ -13,7 +13,7 @@ use Rattle.joint_models.specs.Lists.{AreListsOf}
 use Rattle.joint_models.specs.Renaming.{numbers_between, AreNumbers, HasAllOf, IsPartOf}
 use Rattle.joint_models.proofs.Joint.{planner_whole, user_whole}
 
--- the joint vocabulary is one alone
+-- there is only one joint vocabulary
 pub one_joint : (planner user v w : Vocabulary) → IsJoint planner user v → IsJoint planner user w → v ≡ w
 one_joint planner user v w v_is w_is = λ i. record {
   types = types i;

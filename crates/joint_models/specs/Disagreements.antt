@@ -71,11 +71,11 @@ word_of Actions = codes "action "
 word_of Predicates = codes "predicate "
 word_of Functions = codes "function "
 
--- what stands between the name and the types
+-- what is printed between the name and the types
 abbrev pub opening : Group → List ℕ
 opening group = (if is_shared group then codes " - " else codes " (")
 
--- what stands after the types
+-- what is printed after the types
 abbrev pub closing : Group → List ℕ
 closing group = (if is_shared group then [] else codes ")")
 
@@ -98,8 +98,8 @@ pub record IsFirstIn (group : Group) (planner user : Vocabulary) (fault : PairFa
   pub planner_is : fault.planner ≡ spelled group name (has group planner name)
   pub user_is : fault.user ≡ spelled group name (has group user name)
 
--- the first disagreement of two vocabularies: it is the first of its group, and there is none in a
--- group before
+-- the first disagreement of two vocabularies: it is the first of its group, and no group before has
+-- one
 pub record IsFirstDisagreement (planner user : Vocabulary) (fault : PairFault) : Type 0 where
   pub group : Group
   pub first : IsFirstIn group planner user fault

@@ -1,4 +1,4 @@
--- What stands in the numbers of one vocabulary, in those of another, by lists of the new numbers.
+-- What is given in the numbers of one vocabulary, in those of another, by lists of the new numbers.
 use Rattle.std.specs.Prelude.{ℕ, ◌≡◌, ◌||◌, not, List, ◌++◌, length, map, filter, All, IsTrue}
 use Rattle.std.specs.Prelude.{Option, Some, slice_get, slice_index}
 use Rattle.std.specs.List.{range_with_len}

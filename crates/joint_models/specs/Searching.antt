@@ -17,7 +17,7 @@ abbrev pub earlier_of : Option (List ℕ) → List ℕ → List ℕ
 earlier_of None name = name
 earlier_of (Some first) name = (if is_lt (slice_cmp nat_cmp name first) then name else first)
 
--- there is none, or the first with a property
+-- nothing has the property, or this is the first that has it
 abbrev pub IsFound : Type 0 → (List ℕ → Type 0) → Option (List ℕ) → Type 0
 IsFound None_is Property least = MatchOption least None_is (IsEarliest Property)
 

@@ -1,3 +1,5 @@
+//! Whether two vocabularies agree, or their first disagreement.
+
 ghost use Rattle.std.specs.Prelude.{◌≡◌, ◌↔◌, IsTrue, IfOk, OnOk};
 ghost use Rattle.model_kit.specs.Pairs.{Agree, names};
 ghost use Rattle.joint_models.specs.Lists.{AreListsOf};
@@ -14,7 +16,7 @@ use model_kit::{Signature, Vocabulary};
 use mre_base::{List, NoMemory, Text};
 use std::alloc::Global;
 
-/// Passes where two vocabularies agree, and else tells the first disagreement.
+/// Passes where two vocabularies agree; else answers the first disagreement.
 pub(crate) fn agree(
     alloc: Global,
     planner: &Vocabulary,
@@ -58,7 +60,7 @@ struct Side<'a> {
     lists: &'a Lists,
 }
 
-// Passes where two vocabularies agree in a group, and else tells the first disagreement there.
+// Passes where two vocabularies agree in a group; else answers the first disagreement there.
 fn compare(alloc: Global, group: Group, planner: Side<'_>, user: Side<'_>) -> Result<(), PairStop>
     requires planner_are { AreListsOf planner.words.now planner.lists.now }
     requires user_are { AreListsOf user.words.now user.lists.now }

@@ -1,3 +1,5 @@
+//! The groups of entries in which vocabularies are compared.
+
 ghost use Rattle.std.specs.Prelude.{◌≡◌};
 ghost use Rattle.joint_models.specs.Disagreements.{is_shared, word_of, opening, closing};
 
@@ -35,14 +37,14 @@ impl Group {
         }
     }
 
-    /// What stands between a name and its types.
+    /// What is printed between a name and its types.
     pub(crate) fn opening(self) -> &'static str
         ensures { result.now ≡ opening self }
     {
         if self.is_shared() { " - " } else { " (" }
     }
 
-    /// What stands after the types.
+    /// What is printed after the types.
     pub(crate) fn closing(self) -> &'static str
         ensures { result.now ≡ closing self }
     {

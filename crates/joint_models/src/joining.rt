@@ -1,3 +1,5 @@
+//! Two models in the numbers of their joint vocabulary.
+
 ghost use Rattle.std.specs.Prelude.{◌≡◌, [], IfOk};
 ghost use Rattle.model_kit.specs.Pairs.{Agree, ArePaired};
 ghost use Rattle.joint_models.specs.Disagreements.{IfDiffers, IsFirstDisagreement};
@@ -20,8 +22,8 @@ pub struct JointModels {
 }
 
 /// Puts two models that agree into the numbers of their joint vocabulary: the planner's types,
-/// objects and numbers, and after them what the user alone has. Else it tells the first
-/// disagreement. Numbers past 32 bits count as want of memory.
+/// objects and numbers, and after them what only the user has. Else it answers the first
+/// disagreement. Numbers past 32 bits count as running out of memory.
 pub fn join_models(alloc: Global, planner: Model, user: Model) -> Result<JointModels, PairStop>
     requires planner_whole { planner.unknown ≡ [] }
     requires user_whole { user.unknown ≡ [] }

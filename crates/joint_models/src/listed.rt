@@ -1,3 +1,5 @@
+//! The entries of a group with their types by name.
+
 ghost use Rattle.std.specs.Prelude.{◌≡◌, ◌<◌, ◌↔◌, length, map, IsTrue, IfOk, MatchOption, None};
 ghost use Rattle.std.specs.Prelude.{Some};
 ghost use Rattle.model_kit.specs.Pairs.{number_of, names, is_named};

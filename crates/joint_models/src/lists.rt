@@ -1,3 +1,5 @@
+//! All entries of a vocabulary, found by name.
+
 ghost use Rattle.std.specs.Prelude.{◌≡◌, IfOk};
 ghost use Rattle.joint_models.specs.Lists.{AreListsOf, listed_in};
 

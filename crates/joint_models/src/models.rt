@@ -1,3 +1,5 @@
+//! A model in the numbers of the joint vocabulary.
+
 ghost use Rattle.std.specs.Prelude.{◌≡◌, ◌<◌, ◌||◌, length, IsTrue, IfOk};
 ghost use Rattle.model_kit.specs.Pairs.{is_named, IsModelIn};
 ghost use Rattle.joint_models.specs.Renaming.{IsPartOf, IsSchemaFor, AreSchemasFor, unknown_among};

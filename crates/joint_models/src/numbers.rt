@@ -1,3 +1,5 @@
+//! The new numbers of the entries of a vocabulary.
+
 ghost use Rattle.std.specs.Prelude.{◌≡◌, map, IfOk};
 ghost use Rattle.model_kit.specs.Pairs.{names, number_of};
 ghost use Rattle.joint_models.specs.Renaming.{number_at, numbers_between, AreNumbers};

@@ -1,3 +1,5 @@
+//! Atoms, values, schemas and costs in new numbers.
+
 ghost use Rattle.std.specs.Prelude.{◌≡◌, map, IfOk};
 ghost use Rattle.joint_models.specs.Renaming.{atom_by, term_by, schema_atom_by, cost_by, schema_by};
 ghost use Rattle.joint_models.specs.Renaming.{value_by};

@@ -1,3 +1,5 @@
+//! Why two models have no joint vocabulary.
+
 ghost use Rattle.std.specs.Prelude.{◌≡◌};
 ghost use Rattle.joint_models.specs.declared.stop.PairStop.TheVariants.{NoMemory as Stopped};
 

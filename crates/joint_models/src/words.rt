@@ -1,3 +1,5 @@
+//! The joint vocabulary.
+
 ghost use Rattle.std.specs.Prelude.{◌≡◌, ◌++◌, map, IfOk};
 ghost use Rattle.model_kit.specs.Pairs.{Agree, IsJoint};
 ghost use Rattle.joint_models.specs.Lists.{AreListsOf};

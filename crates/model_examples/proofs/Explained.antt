@@ -33,7 +33,7 @@ pub data Reason : Type 0 where
   Far : ℕ → (GroundAtom → ℕ) → Reason
   Cheaper : List GroundAction → Reason
 
--- ---- the first of the sets that lists tell
+-- ---- the first of the sets of lists
 
 -- the list is one of them and before each other
 abbrev pub is_first_list : Task → List (List ℕ) → List ℕ → Bool

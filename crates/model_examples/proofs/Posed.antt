@@ -97,7 +97,7 @@ same_content-self Nothing = refl
 
 -- ---- where a model isn't empty
 
--- what stands at a place that a model doesn't list
+-- the content of a place that a model doesn't list
 abbrev default : Place → Content
 default (Cost action) = Nothing
 default (Value f xs) = Worth None

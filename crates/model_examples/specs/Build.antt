@@ -12,7 +12,7 @@ use Rattle.model_kit.specs.declared.action.GroundAction.{GroundAction}
 abbrev pub word : List ℕ → List ℕ → Signature
 word name params = record { name = name; params = params }
 
--- the type `object` alone
+-- only the type `object`
 abbrev pub one_type : List (List ℕ × ℕ)
 one_type = (codes "object", 0) ∷ []
 

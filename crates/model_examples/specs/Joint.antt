@@ -114,7 +114,7 @@ other_words = record {
   sound = refl;
 }
 
--- there is no b
+-- b isn't there
 abbrev pub fewer_words : Vocabulary
 fewer_words = record {
   types = one_type;

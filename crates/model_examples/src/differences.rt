@@ -1,3 +1,5 @@
+//! Differences, their numbers, weights and the order of sets on small models.
+
 ghost use Rattle.std.specs.Prelude.{◌≡◌, true, false, [], ◌∷◌};
 ghost use Rattle.model_kit.specs.Places.{Init, Goal, Pre, Cost, meaning};
 ghost use Rattle.model_kit.specs.Differences.{AreDifferences};

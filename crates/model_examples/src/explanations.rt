@@ -1,3 +1,5 @@
+//! Complete and monotonic sets, MCEs and MMEs of small models.
+
 ghost use Rattle.std.specs.Prelude.{[], ◌∷◌};
 ghost use Rattle.model_kit.specs.Explanations.{IsPosed, IsComplete, IsMonotonic, IsMCE, IsMME};
 ghost use Rattle.model_examples.specs.Told.{of, AreComplete, AreMonotonic};

@@ -1,3 +1,5 @@
+//! Joint numbers of two small models.
+
 ghost use Rattle.model_kit.specs.Pairs.{Agree, IsModelIn, ArePaired};
 ghost use Rattle.model_examples.specs.Joint as joint;
 

@@ -1,3 +1,5 @@
+//! Judgements of plans on small models.
+
 ghost use Rattle.std.specs.Prelude.{[], ◌∷◌};
 ghost use Rattle.model_kit.specs.declared.judging.NamedJudgement.TheVariants.{Valid, Fails, NoCost};
 ghost use Rattle.model_kit.specs.declared.judging.NamedJudgement.TheVariants.{GoalMissing};

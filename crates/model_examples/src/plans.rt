@@ -1,3 +1,5 @@
+//! Costs, steps, valid and cheapest plans of small models.
+
 ghost use Rattle.std.specs.Prelude.{◌≡◌, Some, None, [], ◌∷◌};
 ghost use Rattle.model_kit.specs.Places.{meaning};
 ghost use Rattle.model_kit.specs.Runs.{cost_of, Needs, Applies, Initial, IsValid, cost, IsCheapest};

@@ -1,3 +1,5 @@
+//! Printed forms and sentences on small models.
+
 ghost use Rattle.std.specs.Prelude.{◌≡◌, ◌++◌, [], ◌∷◌, codes};
 ghost use Rattle.model_kit.specs.Printed.{atom_form, schema_atom_form, action_form};
 ghost use Rattle.model_kit.specs.Sentences.{line, difference_line, explanation};

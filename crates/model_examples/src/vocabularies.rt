@@ -1,3 +1,5 @@
+//! Names, vocabularies and models: lists that are one, and lists that aren't.
+
 ghost use Rattle.std.specs.Prelude.{◌≡◌, ◌==◌, true, false, [], ◌∷◌, codes};
 ghost use Rattle.std.specs.Cmp.Lexicographic.{pointwise};
 ghost use Rattle.model_kit.specs.declared.atom.Term.TheVariants.{Param, Object};

@@ -115,7 +115,7 @@ module _ (model : Model) (action : GroundAction) (fits : IsGroundAction model.wo
       subst (All (λ atom. IsTrue (is_ground_atom model.words atom))) (sym is)
       (All-map (λ atom. IsTrue (is_ground_atom model.words atom)) (instance action.objects) fs (λ k d lt. instance_ground model action fits (get_or fs k d) (fit k d lt)))
 
--- the clauses on what may be there
+-- the clauses on what is there
 pub some_holds : {X : Type 0} (P : X → Type 0) (o : Option X) (x : X) → o ≡ Some x → IfSome o P → P x
 some_holds P o x is holds = subst (λ p. IfSome p P) is holds
 

@@ -1,5 +1,5 @@
 -- Different atoms of a vocabulary have different printed forms.
--- No name has a blank or a closing parenthesis, so a printed form is cut into its name and its arguments in one way alone.
+-- No name has a blank or a closing parenthesis, so a printed form is cut into its name and its arguments in only one way.
 use Rattle.std.proofs.Common.{◌≡◌, ℕ, ◌+◌, ◌%◌, ◌<◌, ◌^◌, ◌&&◌, zero, suc, Bool, true, false, List, [], ◌∷◌, ◌++◌, length, get_or, map, refl, sym, ap, subst, ◌∙◌, arith, append_assoc, ⊎_elim}
 use Rattle.std.specs.Prelude.{◌==◌, ◌≢◌, not, IsTrue, codes, decimal, slice_get}
 use Rattle.std.specs.List.{list_all}
@@ -30,7 +30,7 @@ abbrev are_plain : List ℕ → Bool
 are_plain [] = true
 are_plain (b ∷ bs) = is_plain b && are_plain bs
 
--- a blank or a closing parenthesis stands first
+-- a blank or a closing parenthesis comes first
 abbrev Ends : List ℕ → Type 0
 Ends [] = ⊥
 Ends (b ∷ bs) = is_plain b ≡ false
@@ -56,7 +56,7 @@ abbrev all_plain : List (List ℕ) → Bool
 all_plain [] = true
 all_plain (a ∷ as') = are_plain a && all_plain as'
 
--- what stands after the name
+-- what comes after the name
 abbrev tail_of : List (List ℕ) → List ℕ
 tail_of args = args_form args ++ codes ")"
 
@@ -74,7 +74,7 @@ first_arg a b args other p q e =
 no_first_arg : (b : List ℕ) (other : List (List ℕ)) → tail_of [] ≡ tail_of (b ∷ other) → ⊥
 no_first_arg b other e = cc
 
--- the arguments are read back from what stands after the name
+-- the arguments are read back from what comes after the name
 tail_of-injective : (args other : List (List ℕ)) → all_plain args ≡ true → all_plain other ≡ true → tail_of args ≡ tail_of other → args ≡ other
 tail_of-injective [] [] p q e = refl
 tail_of-injective [] (b ∷ other) p q e = absurd (no_first_arg b other e)
@@ -117,7 +117,7 @@ name_plain (b ∷ bs) e =
     let parts = and_parts (is_first_byte b) (list_all (λ c. is_word_byte c && not (is_capital c)) bs) e in
     and_from (is_plain b) (are_plain bs) (first_plain b parts.0) (bytes_plain bs parts.1)
 
--- ---- names tell entries apart
+-- ---- names distinguish entries
 
 abbrev entry_name : {X : Type 0} → (X → List ℕ) → List X → ℕ → List ℕ
 entry_name name xs n = option_map_or name (slice_get xs n) []

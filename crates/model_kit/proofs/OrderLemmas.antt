@@ -96,7 +96,7 @@ module _ (weights : List ℕ) where
   pub before_trans : (a b c : set.FinSet nat_cmp) → is_before weights a b ≡ true → is_before weights b c ≡ true → is_before weights a c ≡ true
   before_trans a b c = lighter_trans (numbers (length weights) a) (numbers (length weights) b) (numbers (length weights) c)
 
-  -- what is before a set is no heavier
+  -- what is before a set isn't heavier
   pub before_no_heavier : (a b : set.FinSet nat_cmp) → is_before weights a b ≡ true → weight weights (numbers (length weights) a) ≤ weight weights (numbers (length weights) b)
   before_no_heavier a b = lex_le (weight weights (numbers (length weights) a)) (weight weights (numbers (length weights) b)) (is_smaller (numbers (length weights) a) (numbers (length weights) b))
 

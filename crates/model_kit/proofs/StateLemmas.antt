@@ -21,7 +21,7 @@ pub list_any-map : {X Y : Type 0} (p : Y → Bool) (f : X → Y) (xs : List X) �
 list_any-map p f [] = refl
 list_any-map p f (x ∷ xs) = ap (λ b. p (f x) || b) (list_any-map p f xs)
 
--- the order of atoms ties an atom with itself alone
+-- the order of atoms ties an atom only with itself
 pub atom_cmp-ties : (a b : GroundAtom) → is_eq (atom_cmp a b) ≡ same_atom a b
 atom_cmp-ties a b = sym (both_tied _ _ (nat_cmp a.predicate b.predicate) (slice_cmp nat_cmp a.objects b.objects) (unsigned_ties a.predicate b.predicate) (texts_ties a.objects b.objects))
 

@@ -64,11 +64,11 @@ module _ (types : List (List ℕ × ℕ)) where
       grows : steps + 1 ≡ suc steps
       grows = omega arith
 
-  -- the type above stands here
+  -- the type above is here
   pub climbed_there : (type above steps current : ℕ) → Climbed type above steps current → steps ≤ length types → current ≡ above → is_of_type types type above ≡ true
   climbed_there type above steps current climbed le same = from_steps_up type above steps le (sym climbed.is ∙ same)
 
-  -- it stands nowhere on the way
+  -- it is nowhere on the way
   pub climbed_past : (type above steps current : ℕ) → Climbed type above steps current → length types ≤ steps → current ≢ above → is_of_type types type above ≡ false
   climbed_past type above steps current climbed all other =
       false_from_ne_true (is_of_type types type above) (λ e.

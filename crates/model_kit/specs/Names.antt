@@ -2,7 +2,7 @@
 use Rattle.std.specs.Prelude.{ℕ, ◌==◌, ◌&&◌, ◌||◌, not, nat_le, Bool, true, false, List, [], ◌∷◌}
 use Rattle.std.specs.List.{list_any, list_all}
 
--- the byte may stand in a word: 33 to 126 without parentheses and semicolon
+-- the byte may be in a word: 33 to 126 without parentheses and semicolon
 abbrev pub is_word_byte : ℕ → Bool
 is_word_byte b = nat_le 33 b && nat_le b 126 && not (b == 40) && not (b == 41) && not (b == 59)
 
@@ -14,7 +14,7 @@ is_capital b = nat_le 65 b && nat_le b 90
 abbrev pub is_first_byte : ℕ → Bool
 is_first_byte b = (nat_le 48 b && nat_le b 57) || (nat_le 97 b && nat_le b 122) || (b == 95)
 
--- a byte of words that is no capital
+-- a byte of words that isn't a capital
 abbrev pub is_later_byte : ℕ → Bool
 is_later_byte b = is_word_byte b && not (is_capital b)
 

@@ -30,14 +30,14 @@ SameTyped part one two =
     (e : List ℕ × List ℕ) → Contains (typed_names one (part one)) e
     ↔ Contains (typed_names two (part two)) e
 
--- a name that stands in both has equal parameter types
+-- a name that occurs in both has equal parameter types
 abbrev pub SameParams : (Vocabulary → List Signature) → Vocabulary → Vocabulary → Type 0
 SameParams part one two =
     (s t : Signature) → Contains (part one) s → Contains (part two) t → s.name ≡ t.name
     → map (type_name one) s.params ≡ map (type_name two) t.params
 
 -- the vocabularies agree in types with their parents, in objects with their types, and in the
--- parameters of what stands in both
+-- parameters of what occurs in both
 pub record Agree (planner user : Vocabulary) : Type 0 where
   pub types : SameTyped (λ w. w.types) planner user
   pub objects : SameTyped (λ w. w.objects) planner user

@@ -1,7 +1,6 @@
--- What a model is: at each of its places stands a feature that is on or off, a cost expression, or
--- the value of a function.
--- The features are those of action schemas in place of their ground instances; else they are after
--- Chakraborti et al., IJCAI 2017.
+-- What a model is: each of its places has a feature that is on or off, a cost expression, or the value
+-- of a function. The features are those of action schemas in place of their ground instances; apart
+-- from that they are after Chakraborti et al., IJCAI 2017.
 use Rattle.std.specs.Prelude.{ℕ, ◌==◌, ◌&&◌, not, nat_lt, Bool, false, List, [], ◌∷◌, length}
 use Rattle.std.specs.Prelude.{Option, None, Some, slice_get, if◌then◌else◌}
 use Rattle.std.specs.List.{list_any}
@@ -25,7 +24,7 @@ pub data Place : Type 0 where
   Cost : ℕ → Place
   Value : ℕ → List ℕ → Place
 
--- what stands at a place: a feature, on or off; a cost expression; a value, which may be absent; or
+-- the content of a place: a feature, on or off; a cost expression; a value, which may be absent; or
 -- nothing, where no action has the number
 pub data Content : Type 0 where
   Feature : Bool → Content
@@ -58,7 +57,7 @@ abbrev pub value_of : List (ℕ × List ℕ × ℕ) → ℕ → List ℕ → Opt
 value_of [] f xs = None
 value_of (v ∷ vs) f xs = if (v.0 == f) && same_numbers v.1 xs then Some v.2 else value_of vs f xs
 
--- what stands at each place of a model
+-- the content of each place of a model
 abbrev pub meaning : Model → Meaning
 meaning model (Init atom) = Feature (list_any (same_atom atom) model.init)
 meaning model (Goal atom) = Feature (list_any (same_atom atom) model.goal)

@@ -37,7 +37,7 @@ abbrev pub not_other : Vocabulary → Content → Content → List ℕ
 not_other words planner user =
     content_form words planner ++ codes ", not " ++ content_form words user
 
--- the sentence of a difference, by what stands there in the planner's model and in the user's
+-- the sentence of a difference, by its content in the planner's model and in the user's
 abbrev pub sentence : Vocabulary → Content → Content → Place → List ℕ
 sentence words planner user (Init atom) =
     codes "initially " ++ atom_form words atom
@@ -79,8 +79,8 @@ explanation_lines kind task told price =
     ++ flat_map (difference_line task) told
     ++ line (codes "cost " ++ decimal price)
 
--- the explanation of a kind, `mce` or `mme`, that tells a set of differences; the cost is the
--- plan's in the user's model after them
+-- the explanation of a kind, `mce` or `mme`, with these told differences; the cost is the plan's in
+-- the user's model after them
 abbrev pub explanation : List ℕ → Task → set.FinSet nat_cmp → List ℕ
 explanation kind task told =
     explanation_lines kind task (numbers (length task.places) told)

@@ -13,7 +13,7 @@ abbrev pub ancestor : List (List ℕ × ℕ) → ℕ → ℕ → ℕ
 ancestor types zero type = type
 ancestor types (suc n) type = parent types (ancestor types n type)
 
--- a type is another or below it: at most as many parents up as there are types stands the other
+-- a type is another or below it: the other is at most as many parents up as there are types
 abbrev pub is_of_type : List (List ℕ × ℕ) → ℕ → ℕ → Bool
 is_of_type types type above =
     list_any (λ n. ancestor types n type == above) (range_with_len 0 (suc (length types)))

@@ -1,3 +1,5 @@
+//! Ground actions, and plans.
+
 use mre_base::List;
 
 /// An action schema with an object for each of its parameters.

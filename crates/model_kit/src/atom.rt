@@ -1,3 +1,5 @@
+//! Terms, schema atoms and ground atoms.
+
 ghost use Rattle.std.specs.Prelude.{◌≡◌, ◌==◌, IfOk};
 ghost use Rattle.std.specs.Cmp.{partial_order_from_own_ties};
 ghost use Rattle.std.specs.Cmp.Rules.{comparing};
@@ -18,7 +20,7 @@ pub enum Term {
     Object(u32),
 }
 
-/// A predicate with terms, as it stands in an action schema.
+/// A predicate with terms, as in an action schema.
 #[derive(Debug, Drop)]
 pub struct SchemaAtom {
     pub predicate: u32,

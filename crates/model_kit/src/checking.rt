@@ -1,3 +1,5 @@
+//! Whether lists make a vocabulary or a model.
+
 ghost use Rattle.std.specs.Prelude.{◌≡◌, ◌↔◌, ◌==◌, nat_lt, length, IsTrue, IsSome, IfSome};
 ghost use Rattle.std.specs.List.{list_all, range_with_len};
 ghost use Rattle.std.specs.Cmp.Lexicographic.{pointwise};

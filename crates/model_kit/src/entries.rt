@@ -1,11 +1,12 @@
+//! Whether the entries of a list pass a test and are distinct.
+
 ghost use Rattle.std.specs.Prelude.{◌≡◌, ◌<◌, ◌+◌, Bool, length, drop, slice_get, IfSome};
 ghost use Rattle.std.specs.List.{list_any};
 ghost use Rattle.model_kit.specs.Names.{are_distinct, are_entries};
 
 use mre_base::List;
 
-// What stands in a list that has no entry twice, and is tested against what is given beside the
-// list.
+// An entry of a list without repeats, tested against what is given beside the list.
 pub(crate) trait Entry<C> {
     ghost passes: { C → Self → Bool };
 

@@ -1,3 +1,5 @@
+//! What fits a vocabulary: names, types, objects, terms, signatures.
+
 ghost use Rattle.std.specs.Prelude.{◌≡◌};
 ghost use Rattle.std.specs.List.{list_all};
 ghost use Rattle.std.specs.Cmp.Lexicographic.{pointwise};

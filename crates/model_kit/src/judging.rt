@@ -1,3 +1,5 @@
+//! Judging a plan in a model: valid with its cost, or the first thing that is wrong.
+
 ghost use Rattle.std.specs.Prelude.{◌≡◌, ◌^◌, ◌<◌, length, All, IsTrue, IfOk, IfSome, IfNone};
 ghost use Rattle.model_kit.specs.Vocabulary.{is_ground_atom, is_ground_action, IsGroundAction};
 ghost use Rattle.model_kit.specs.Places.{meaning};

@@ -1,3 +1,5 @@
+//! Laws of explanations: when there are an MCE and an MME, and how the two compare.
+
 ghost use Rattle.model_kit.specs.Laws.{LawOf, MCELaw, MMELaw, OrderLaw};
 
 use crate::{Model, Plan};

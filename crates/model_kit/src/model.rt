@@ -1,3 +1,5 @@
+//! Models as plain data: facts, goals, schemas, values and unknown actions.
+
 ghost use Rattle.std.specs.Prelude.{IsTrue};
 ghost use Rattle.model_kit.specs.Features.{is_model};
 
@@ -9,7 +11,7 @@ use std::alloc::Global;
 #[derive(Debug, Drop)]
 pub enum CostExpr {
     Number(u32),
-    /// The value of a function at the objects that the terms stand for.
+    /// The value of a function at the objects of the terms.
     Call { function: u32, args: List<Term> },
 }
 

@@ -1,3 +1,5 @@
+//! The function values of a model as an ordered map, and the costs of actions.
+
 ghost use Rattle.std.specs.Prelude.{ℕ, ◌≡◌, ◌==◌, IsTrue, IfOk, List as ListOf};
 ghost use Rattle.std.specs.Cmp.{partial_order_from_own_ties};
 ghost use Rattle.std.specs.Cmp.Rules.{comparing};

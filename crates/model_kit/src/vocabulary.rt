@@ -1,3 +1,5 @@
+//! The vocabulary of a model: types, objects, predicates, functions and actions.
+
 ghost use Rattle.std.specs.Prelude.{IsTrue};
 ghost use Rattle.model_kit.specs.Words.{is_vocabulary};
 
@@ -35,7 +37,7 @@ pub struct Vocabulary {
     /// Each constant or object with its type.
     pub objects: List<(Text, u32)>,
     pub predicates: List<Signature>,
-    /// The cost functions. `total-cost` is none of them.
+    /// The cost functions, without `total-cost`.
     pub functions: List<Signature>,
     pub actions: List<Signature>,
     pub ghost sound: { IsTrue (is_vocabulary types objects predicates functions actions) },
