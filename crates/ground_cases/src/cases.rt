@@ -1,3 +1,5 @@
+//! The texts of a case, cut out of the input.
+
 use crate::grounding::grounded;
 use crate::telling::{Part, tell};
 use mre_base::NoMemory;

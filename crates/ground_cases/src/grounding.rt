@@ -1,3 +1,5 @@
+//! The pair of a case, grounded.
+
 ghost use Rattle.std.specs.Prelude.{◌≡◌, [], IfSome};
 
 use crate::cases::Cases;

@@ -1,3 +1,5 @@
+//! Tables and refusals as lines.
+
 use case_kit::{Case, CaseAction, CaseCost, CaseTable, CaseValue, When};
 use ground_core::{Ground, GroundStop, NameTable};
 use mre_base::{List, NoMemory};
@@ -133,7 +135,7 @@ fn tell_ground(alloc: Global, ground: &Ground, part: Part) -> Result<String, NoM
     Ok(told)
 }
 
-/// What is in the table, or why there is none.
+/// What is in the table, or why there is no table.
 pub fn tell(
     alloc: Global,
     grounded: &Option<Result<Ground, GroundStop>>,

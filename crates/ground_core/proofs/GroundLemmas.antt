@@ -1,4 +1,4 @@
--- What the search for what may be reached says of two models, and that no more may be reached than a table lists.
+-- What reachability says of two models, and that no more atoms and actions are reachable than a table lists.
 use Rattle.std.proofs.Common.{◌≡◌, ◌≢◌, ℕ, zero, suc, ◌≤◌, ◌<◌, Some, List, [], ◌∷◌, length, ◌∙◌, inl, inr, refl, sym, ap, subst, arith}
 use Rattle.std.specs.Prelude.{◌↔◌, All, AllPairs, Contains, IsTrue, IfErr, Result, Ok, Err, slice_get}
 use Rattle.std.specs.Result.{IsErrAnd}
@@ -40,7 +40,7 @@ listed_again models atoms same_atoms actions same_actions lists atoms_same actio
   each_action = λ action. (λ there. (lists.each_action action).0 ((actions_same action).0 there), λ reach. (actions_same action).1 ((lists.each_action action).1 reach));
 }
 
--- ---- what may be reached fits the words
+-- ---- reachable atoms and actions fit the vocabulary
 pub actions_fit : (models : Models) (atoms : List GroundAtom) (actions : List GroundAction) → ListsReachable models atoms actions → All (IsGroundAction models.words) actions
 actions_fit models atoms actions lists = All-weaker (Contains actions) (IsGroundAction models.words) (λ action among. reached_fits models action ((lists.each_action action).0 among)) actions (All-contains_itself actions)
 
@@ -67,7 +67,7 @@ module _ (planner user : Model) (joint : user.words ≡ planner.words) (differen
     pub atoms_fit : All (λ atom. IsTrue (is_ground_atom planner.words atom)) atoms
     atoms_fit = All-weaker (Contains atoms) (λ atom. IsTrue (is_ground_atom planner.words atom)) (λ atom among. atom_fits atom ((lists.each_atom atom).0 among)) atoms (All-contains_itself atoms)
 
--- ---- a list with no two the same, of things that another has, is no longer
+-- ---- a list of distinct things that another has isn't longer than it
 abbrev without : {X : Type 0} → ℕ → List X → List X
 without k [] = []
 without zero (y ∷ ys) = ys
@@ -100,7 +100,7 @@ no_longer (x ∷ xs) ys apart there =
     differs : (y : _) → Contains xs y → x ≢ y
     differs y (i, lt, is) same = apart zero (suc i) y (omega arith) (omega arith) (same ∙ sym is)
 
--- no more than a limit have a property that those of a list have, which is no longer
+-- no more things than a limit have a property that only the items of a list have, if the list isn't longer
 few_have : {X : Type 0} (limit : ℕ) (P : X → Type 0) (ys : List X) → length ys ≤ limit → ((x : X) → P x → Contains ys x) → rules.MoreThan limit P → ⊥
 few_have limit P ys few has (xs, more, apart, all) =
     let count = no_longer xs ys apart (λ x among. has x (All-contains P xs x all among)) in

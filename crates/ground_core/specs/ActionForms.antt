@@ -1,4 +1,4 @@
--- The printed forms of two actions tell them apart: an action is printed as an atom is, in words
+-- Different actions have different printed forms: an action is printed as an atom is, in a vocabulary
 -- whose predicates are the actions.
 use Rattle.std.proofs.Common.{◌≡◌, true, ap}
 use Rattle.model_kit.specs.declared.vocabulary.Vocabulary.{Vocabulary}

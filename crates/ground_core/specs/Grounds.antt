@@ -11,8 +11,8 @@ use Rattle.pair_rules.specs.Ruled.{models_of}
 use Rattle.ground_core.specs.declared.table.Ground.{Ground}
 use Rattle.ground_core.specs.Stops.{ManyAtoms, ManyActions}
 
--- the table is that of what may be reached, each under its printed form, and the differences are
--- those of the list; that the forms ascend is said by the type of the names
+-- the table is that of the reachable atoms and actions, each under its printed form, and the
+-- differences are those of the list; the type of the names says that the forms ascend
 pub record IsGroundOf (planner user : Model) (differences : List Difference)
     (ground : Ground) : Type 0 where
   pub atoms : List GroundAtom

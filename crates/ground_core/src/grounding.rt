@@ -1,3 +1,5 @@
+//! Grounds a pair of models.
+
 ghost use Rattle.std.specs.Prelude.{◌≤◌, length, IfOk, IfErr};
 ghost use Rattle.feature_diff.specs.Differing.{AreDifferencesOf};
 ghost use Rattle.ground_core.specs.Grounds.{IsGroundOf, IsFull};

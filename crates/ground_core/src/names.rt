@@ -1,3 +1,5 @@
+//! The printed forms of listed atoms and ground actions, and the numbers of plans.
+
 ghost use Rattle.std.specs.Prelude.{◌≡◌, ◌<◌, length, slice_get, Some, Contains, MatchOption, All};
 ghost use Rattle.std.specs.Prelude.{IsTrue, IfOk};
 ghost use Rattle.model_kit.specs.Printed.{action_form};

@@ -1,3 +1,5 @@
+//! Things in the order of their printed forms.
+
 // Things in the order of their printed forms.
 ghost use Rattle.std.specs.Prelude.{◌≡◌, All, IfOk};
 ghost use Rattle.model_kit.specs.Printed.{atom_form, action_form};
@@ -25,7 +27,7 @@ pub(crate) trait Printable: Drop {
         requires { Fits words.now self.now }
         ensures { IfOk result (λ text. text ≡ form words.now self.now) };
 
-    /// The same once more.
+    /// A copy.
     fn again(&self, alloc: Global) -> Result<Self, NoMemory>
         ensures { IfOk result (λ made. made ≡ self.now) };
 }

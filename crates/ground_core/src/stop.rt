@@ -1,3 +1,5 @@
+//! Why a pair has no table.
+
 ghost use Rattle.std.specs.Prelude.{◌≡◌};
 ghost use Rattle.ground_core.specs.Stops.{no_memory, stop_of};
 

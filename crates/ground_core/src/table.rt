@@ -1,3 +1,5 @@
+//! A grounded pair: its table and its names.
+
 use crate::NameTable;
 use case_kit::CaseTable;
 

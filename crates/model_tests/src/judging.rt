@@ -1,3 +1,5 @@
+//! Tests of judgements.
+
 ghost use Rattle.std.specs.Prelude.{◌^◌, IfOk};
 ghost use Rattle.model_kit.specs.Judgement.{NamesAtoms};
 ghost use Rattle.pddl_read.specs.Texts.{AreFew};

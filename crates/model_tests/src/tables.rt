@@ -1,4 +1,4 @@
-//! Models from texts of PDDL, in which a `|` may stand for the end of a line.
+//! Models from texts of PDDL, in which a `|` may mean the end of a line.
 ghost use Rattle.std.specs.Prelude.{◌^◌, IfOk};
 ghost use Rattle.pddl_read.specs.Texts.{AreFew};
 

@@ -1,3 +1,5 @@
+//! Tests of vocabularies and models: lists that are one, and lists that aren't.
+
 mod making;
 mod rows;
 
@@ -31,7 +33,7 @@ fn assert_model(
     Ok(())
 }
 
-// The facts stand at the start, and then as the goal.
+// The facts are initial ones, and then goals.
 fn assert_facts(
     rt: &impl Abort,
     alloc: Global,

@@ -1,4 +1,4 @@
--- The small pair: what may be reached, and its table.
+-- The small pair: its reachable atoms and actions, and its table.
 use Rattle.std.proofs.Common.{◌≡◌, ℕ, zero, suc, true, List, [], ◌∷◌, length, Some, None, unwrap_or, refl, sym, ap, ◌∙◌, arith, subst, inl, inr}
 use Rattle.std.specs.Prelude.{Contains, slice_get}
 use Rattle.std.specs.Cmp.Lexicographic.{pointwise}
@@ -61,7 +61,7 @@ is_walk : (schema : ℕ) (objects : List ℕ) → is_ground_action words (record
 is_walk zero objects fits = λ i. record { schema = 0; objects = no_objects objects fits i }
 is_walk (suc schema) objects fits = absurd (true≢false (sym fits))
 
--- ---- what may be reached
+-- ---- the reachable atoms and actions
 abbrev Among : Thing → Type 0
 Among (Atom atom) = p ≡ atom
 Among (Action action) = walk ≡ action

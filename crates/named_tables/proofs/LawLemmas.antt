@@ -1,4 +1,4 @@
--- Lists of numbers run in the table of what may be reached as lists of ground actions run in the models.
+-- Lists of numbers run in the table of the reachable atoms and actions as lists of ground actions run in the models.
 use Rattle.std.proofs.Common.{◌≡◌, ℕ, List, [], ◌∷◌, length, Some, ap, ◌∙◌, arith}
 use Rattle.std.specs.Prelude.{◌↔◌, All, slice_get}
 use Rattle.std.specs.List.{AllByRecursion}

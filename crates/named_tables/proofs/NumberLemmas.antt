@@ -34,7 +34,7 @@ number_listed (first ∷ atoms) atom at =
     later miss (zero, lt, is) = absurd (true≢false (sym ((same_atom-decides atom first).1 (sym is)) ∙ miss))
     later miss (suc i, lt, is) = (i, omega arith, is)
 
--- at its number stands the atom
+-- the atom is at its number
 pub number_there : (atoms : List GroundAtom) (atom : GroundAtom) → number_in atoms atom < length atoms → slice_get atoms (number_in atoms atom) ≡ Some atom
 number_there [] atom lt = absurd (omega arith)
 number_there (first ∷ atoms) atom lt =

@@ -1,4 +1,4 @@
--- A valid list of ground actions never leaves what may be reached.
+-- A valid list of ground actions only takes reachable actions and makes reachable atoms true.
 use Rattle.std.proofs.Common.{List, [], ◌∷◌, refl, subst, inl, inr}
 use Rattle.std.specs.Prelude.{All}
 use Rattle.std.specs.List.{AllByRecursion}

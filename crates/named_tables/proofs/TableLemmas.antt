@@ -1,4 +1,4 @@
--- A table of two models that lists what may be reached is, after each set of differences, the user's model in numbers.
+-- A table of two models that lists the reachable atoms and actions is, after each set of differences, the user's model in numbers.
 use Rattle.std.proofs.Common.{◌≡◌, ℕ, ◌≤◌, ◌<◌, List, length, Some, None, unwrap_or, refl, sym, ap, ◌∙◌, arith, subst, inl, inr}
 use Rattle.std.specs.Prelude.{Contains, slice_get}
 use Rattle.std.specs.Option.{option_map}

@@ -25,15 +25,15 @@ ReachLaw =
     → AreRulesOf models world → rules.ListsReachable world limits reached →
     ListsReachable models reached.atoms reached.actions
 
--- whatever is told, lists of numbers run in the table of what may be reached as lists of ground
--- actions run in the models
+-- whatever is told, lists of numbers run in the table of the reachable atoms and actions as lists of
+-- ground actions run in the models
 abbrev pub RunLaw : Type 0
 RunLaw =
     (models : Models) (atoms : List GroundAtom) (actions : List GroundAction) (table : CaseTable)
     → ListsReachable models atoms actions → IsTableOf models atoms actions table →
     (told : Told) → RunsAsNamed models actions table told
 
--- an action has a cost after some set of differences exactly where a number stands in its cost
+-- an action has a cost after some set of differences exactly where there is a number in its cost
 abbrev pub PricedLaw : Type 0
 PricedLaw =
     (models : Models) (action : GroundAction) (known : When) (cost : CaseCost)

@@ -1,5 +1,5 @@
--- What may become true and what may be done where both models help and nothing is ever made false
--- (delete relaxation, Bonet and Geffner 2001): the least collection that is closed in this way.
+-- The reachable atoms and actions of two models, where both models help and nothing is ever made
+-- false (delete relaxation, Bonet and Geffner 2001): the least collection that is closed in this way.
 use Rattle.model_kit.specs.declared.atom.GroundAtom.{GroundAtom}
 use Rattle.model_kit.specs.declared.atom.SchemaAtom.{SchemaAtom}
 use Rattle.model_kit.specs.declared.action.GroundAction.{GroundAction}
@@ -13,9 +13,8 @@ pub data Thing : Type 0 where
   Atom : GroundAtom → Thing
   Action : GroundAction → Thing
 
--- the initial facts of either model; each action that has a cost after some set of differences,
--- once its preconditions that both models have are there; and what such an action adds in either
--- model
+-- the initial facts of both models; each action that has a cost after some set of differences, once
+-- its preconditions that both models have are there; and what such an action adds in one of them
 pub data Reachable (models : Models) : Thing → Type 0 where
   Initial : (atom : GroundAtom) → EitherHas models (Init atom) → Reachable models (Atom atom)
   Enabled : (action : GroundAction) → IsGroundAction models.words action → HasSomeCost models action

@@ -22,7 +22,7 @@ use Rattle.case_kit.specs.declared.action.CaseAction.{CaseAction}
 use Rattle.case_kit.specs.declared.table.CaseTable.{CaseTable}
 use Rattle.named_tables.specs.Models.{Models, EitherHas}
 
--- the number of an atom: its place in the list, or the number of all listed atoms, which stands for
+-- the number of an atom: its place in the list, or the number of all listed atoms, which means
 -- what can never be true
 abbrev pub number_in : List GroundAtom → GroundAtom → ℕ
 number_in atoms atom = position_or_len (same_atom atom) atoms
@@ -43,7 +43,7 @@ IsWhen models place (IfLeft number) =
 abbrev pub IsCaseOf : Models → (GroundAtom → ℕ) → Place → GroundAtom → Case → Type 0
 IsCaseOf models number place atom case = (number atom ≡ case.atom) × IsWhen models place case.when
 
--- the cases are those of the features that either model has
+-- the cases are those of the features that at least one model has
 pub record AreCases (models : Models) (number : GroundAtom → ℕ) (F : Type 0) (place : F → Place)
     (atom : F → GroundAtom) (cases : List Case) : Type 0 where
   pub each : (case : Case) → Contains cases case

@@ -32,7 +32,7 @@ pub record IsRuleOf (models : Models) (world : World) (schema : ℕ) (rule : Rul
       ↔ (Has models.planner (Pre schema f) × Has models.user (Pre schema f))
   pub adds : (f : SchemaAtom) → Contains rule.adds f ↔ EitherHas models (Add schema f)
 
--- the initial atoms are those of either model, and each action schema has its rule
+-- the initial atoms are those of both models together, and each action schema has its rule
 pub record AreRulesOf (models : Models) (world : World) : Type 0 where
   pub initial : (atom : GroundAtom) → Contains world.initial atom ↔ EitherHas models (Init atom)
   pub each : (schema : ℕ) (rule : Rule) → slice_get world.rules schema ≡ Some rule

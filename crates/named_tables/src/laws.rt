@@ -1,3 +1,5 @@
+//! Laws of tables of two models: lists run alike in the table and in the models.
+
 ghost use Rattle.named_tables.specs.Example.{ExampleLaw};
 ghost use Rattle.named_tables.specs.Laws.{PricedLaw, ReachLaw, RunLaw};
 
@@ -6,22 +8,21 @@ pub fn law_reachable()
     ensures { ReachLaw }
 {}
 
-/// In a table of two models that lists what may be reached, a list of numbers is to each member
-/// what the list of ground actions with
-/// these numbers is to the user's model after the same differences: valid there exactly where it is
-/// valid here, at the same cost, and
-/// cheapest there exactly where it is cheapest here. Every valid list has numbers.
+/// In a table of two models that lists the reachable atoms and actions, a list of numbers is to each
+/// member what the list of ground actions with these numbers is to the user's model after the same
+/// differences: valid there exactly where it is valid here, at the same cost, and cheapest there
+/// exactly where it is cheapest here. Every valid list has numbers.
 pub fn law_runs()
     ensures { RunLaw }
 {}
 
-/// A ground action has a cost after some set of differences exactly where some number stands in the
+/// A ground action has a cost after some set of differences exactly where there is a number in the
 /// cost that a table gives it.
 pub fn law_priced()
     ensures { PricedLaw }
 {}
 
-/// Two models of which the user believes one fact too many, what may be reached in them, and their
+/// Two models where the user believes one fact too many, their reachable atoms and actions, and their
 /// table.
 pub fn law_example()
     ensures { ExampleLaw }

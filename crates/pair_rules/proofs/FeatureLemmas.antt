@@ -182,7 +182,7 @@ module _ (planner user : Model) (differences : List Difference) (all : AreDiffer
     | inr unlisted ↦ inr (all.all.agree p (unlisted_place p (places_of differences) unlisted))
   ]
 
-  -- the planner's features, and those that the differences give the user's model alone
+  -- the planner's features, and those that the differences give only the user's model
   either_is : {F : Type 0} (at : F → Place) (pick : Difference → Option F) (list : List F)
       → ((f : F) → Contains list f ↔ Has (meaning planner) (at f))
       → ((d : Difference) (f : F) → pick d ≡ Some f → IsAlone (at f) d)

@@ -31,7 +31,7 @@ same_tests true b to back = sym (to refl)
 same_tests false true to back = back refl
 same_tests false false to back = refl
 
--- what stands at a place is one
+-- there is only one item at a place
 pub same_item : {X : Type 0} (o : Option X) (x y : X) → o ≡ Some x → o ≡ Some y → x ≡ y
 same_item o x y is_x is_y = cc
 
@@ -186,7 +186,7 @@ module _ (words : Vocabulary) where
     ];
   }
 
-  -- a type that is in no parameter's set is no parameter's
+  -- a type that is in no parameter's set isn't the type of one
   pub unused : (bits : BitSet) → AreUsed words (length words.actions) bits → (kind : ℕ) → set.contains bits.members kind ≡ false → IsUsed words kind → ⊥
   unused bits are kind lacks (number, action, at, among) = true≢false (sym (are.each number action kind (slice_get_within words.actions number action at) at among) ∙ lacks)
 

@@ -49,7 +49,7 @@ pub record AreFitting (words : Vocabulary) (count : ℕ) (fitting : List (List �
 abbrev pub IsFitting : Vocabulary → List (List ℕ) → Type 0
 IsFitting words fitting = AreFitting words (length words.types) fitting
 
--- the set has the types up to so many parents of one
+-- the set has the types up to a number of parents of one
 pub record AreAbove (types : List (List ℕ × ℕ)) (kind steps : ℕ) (bits : BitSet) : Type 0 where
   pub width : bits.width ≡ length types
   pub there : (k : ℕ) → k < steps → set.contains bits.members (ancestor types k kind) ≡ true

@@ -29,7 +29,7 @@ abbrev pub user_add : ℕ → Difference → Option SchemaAtom
 user_add action (Add at atom false) = if at == action then Some atom else None
 user_add action _ = None
 
--- what is true at first in the user's model alone
+-- what is true at first only in the user's model
 abbrev pub user_init : Difference → Option GroundAtom
 user_init (Init atom false) = Some atom
 user_init _ = None
@@ -90,8 +90,8 @@ pub record AreRulesMade (planner user : Model) (differences : List Difference) (
   pub each : (action : ℕ) (rule : Rule) → slice_get rules action ≡ Some rule
       → IsRuleMade planner user differences action rule
 
--- the world is made of the objects of the types that parameters have, of what is true and valued in
--- either model, and of the rules of all actions
+-- the world is made of the objects of the types that parameters have, of the initial facts and values
+-- of both models, and of the rules of all actions
 pub record IsWorldMade (planner user : Model) (differences : List Difference)
     (world : World) : Type 0 where
   pub fitting : IsFitting planner.words world.fitting

@@ -1,3 +1,5 @@
+//! The objects of each parameter's type.
+
 // The objects of each type that a parameter of an action has.
 ghost use Rattle.std.specs.Prelude.{ℕ, ◌≡◌, ◌<◌, true, length, filter, All, Contains, IfOk};
 ghost use Rattle.std.specs.List.{range_with_len};
@@ -18,7 +20,7 @@ fn types_of(alloc: Global, words: &Vocabulary, count: u32, object: usize) -> Res
     let mut current = words.objects.item(object).1;
     for _step in 0..u64::from(count) + 1 {
         types.put(current);
-        // Every type is below the first, which is above itself alone.
+        // Every type is below the first, which is below nothing but itself.
         if current == 0 {
             break;
         }

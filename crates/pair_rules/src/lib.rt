@@ -1,4 +1,4 @@
-//! The rules of two models, over which it is searched for what may be reached in them.
+//! The rules of two models, from which reachability is computed.
 #![tactic(auto)]
 
 mod fitting;

@@ -1,3 +1,5 @@
+//! What rules are made of: preconditions, adds, facts, costs and values of both models.
+
 // The lists of a rule and of a world: what the planner's model has, by the differences what the
 // user's has in its place or beside it.
 ghost use Rattle.std.specs.Prelude.{◌≡◌, ◌∷◌, [], ◌++◌, Some, None, map, filter, not, IfOk, IfSome};
@@ -34,7 +36,7 @@ fn user_add(action: u32, difference: &Difference) -> Option<&SchemaAtom>
     }
 }
 
-// What is true at first in the user's model alone.
+// What is true at first only in the user's model.
 fn user_init(difference: &Difference) -> Option<&GroundAtom>
     ensures some { IfSome result (λ atom. true_alone difference.now ≡ Some atom.now) }
     ensures none { IfNone result (true_alone difference.now ≡ None) }
@@ -100,8 +102,7 @@ pub(crate) fn needs_of(
     Ok(made)
 }
 
-/// The atoms that an action adds in the planner's model, and those that it adds in the user's
-/// alone.
+/// The atoms that an action adds in the planner's model, and those that it adds only in the user's.
 pub(crate) fn adds_of(
     alloc: Global,
     action: u32,
@@ -120,7 +121,7 @@ pub(crate) fn adds_of(
     Ok(made)
 }
 
-/// The initial facts of the planner's model, and those of the user's alone.
+/// The initial facts of the planner's model, and those that only the user's has.
 pub(crate) fn facts_of(
     alloc: Global,
     init: &List<GroundAtom>,

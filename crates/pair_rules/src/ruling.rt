@@ -1,3 +1,5 @@
+//! The rules of two models.
+
 ghost use Rattle.std.specs.Prelude.{◌≡◌, ◌<◌, IfOk, All, length};
 ghost use Rattle.feature_diff.specs.Differing.{AreDifferencesOf};
 ghost use Rattle.reach_kit.specs.Relaxed.{IsRule};
@@ -56,13 +58,11 @@ fn all_rules(
     Ok(rules)
 }
 
-/// The rules over which it is searched for what may be reached in two models: the objects of the
-/// types that parameters have, the initial
-/// facts and the values of either model, and for each action the preconditions that both have, its
-/// costs and what it adds in either.
-/// The rule of an action that neither model knows has no cost. `NoMemory` leaves all as it was;
-/// more than 32 bits of actions, types or
-/// objects count as want of memory.
+/// The rules of two models, from which reachability is computed: the objects of the types that
+/// parameters have, the initial facts and the values of both models, and for each action the
+/// preconditions that both have, its costs in both and what it adds in both. The rule of an action
+/// that neither model knows has no cost. `NoMemory` leaves all as it was; more than 32 bits of
+/// actions, types or objects count as running out of memory.
 pub fn rules_of(
     alloc: Global,
     pair: &Pair,

@@ -38,7 +38,7 @@ module _ (planner user : Model) (differences : List Difference) (all : AreDiffer
   abbrev number_of : Place → Option ℕ
   number_of = number_from 1 (places_of differences)
 
-  -- where there is a number the models differ, and where there is none they agree
+  -- where there is a number the models differ, and else they agree
   pub differ_at : (p : Place) (n : ℕ) → number_of p ≡ Some n → meaning planner p ≢ meaning user p
   differ_at p n is = let (j, far, at) = number_at 1 (places_of differences) p n is in all.all.differ p (contains_item (places_of differences) j p at)
 

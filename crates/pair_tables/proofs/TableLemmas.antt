@@ -1,4 +1,4 @@
--- What a table of two models keeps: its atoms and differences are in their ranges, no difference stands twice in what decides a cost, and none both in a condition on what is told and in one on what is left.
+-- What a table of two models keeps: its atoms and differences are in their ranges, no difference decides a cost twice, and none is both in a condition on what is told and in one on what is left.
 use Rattle.std.proofs.Common.{◌≡◌, ℕ, ◌+◌, ◌≤◌, ◌&&◌, ◌||◌, Bool, true, false, not, cond, Option, None, Some, List, [], ◌∷◌, ◌++◌, length, map, get_or, ◌∙◌, inl, inr, refl, sym, ap, subst, arith}
 use Rattle.std.specs.Prelude.{All, Contains, slice_get, IsSome, is_some, nat_le, nat_eq}
 use Rattle.cube_kit.specs.Cubes.{Told}
@@ -76,7 +76,7 @@ module _ (models : Models) where
       and_from (is_listed d n) (is_value_listed d told && is_value_listed d left) (number_is_listed (Cost action.schema) n is)
       (and_from (is_value_listed d told) (is_value_listed d left) (value_is_listed action.objects (models.planner (Cost action.schema)) told told_is) (value_is_listed action.objects (models.user (Cost action.schema)) left left_is))
 
-  -- ---- what stands in a cost is the number of its own place or of a value
+  -- ---- the number in a cost is that of its own place or of a value
   worth_number : (f : ℕ) (xs : List ℕ) (value : CaseValue) (k : ℕ) → IsWorth models (Value f xs) value → stands_in_value value k ≡ true → IsNumber models (Value f xs) k
   worth_number f xs (values.One value) k is stands = absurd (true≢false (sym stands))
   worth_number f xs (values.Two n told left) k (is, planner, user) stands = subst (IsNumber models (Value f xs)) (eqb-true n k stands) is
@@ -127,7 +127,7 @@ module _ (models : Models) where
   beside action cost (IfTold n) of (is, own, other) = not_so (stands_in_cost cost n) (cost_beside action cost n of is)
   beside action cost (IfLeft n) of (is, own, other) = not_so (stands_in_cost cost n) (cost_beside action cost n of is)
 
-  -- ---- what may be done
+  -- ---- actions that some model knows
   known_by : (b : Bool) (action : GroundAction) (told : Told) → is_on (after_told models told (Knows action.schema)) ≡ b → IsSome (cost_of (after_told models told) action) → b ≡ true
   known_by true action told is some = refl
   known_by false action told is some = absurd (true≢false (sym some ∙ ap (λ c. is_some (cond c (price_of (after_told models told) action.objects (after_told models told (Cost action.schema))) None)) is))

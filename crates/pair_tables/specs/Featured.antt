@@ -22,12 +22,12 @@ planner_feature number_of f = (f, planner_when (number_of f))
 abbrev pub user_feature : {F : Type 0} → (F → Option ℕ) → F → Option (F × When)
 user_feature number_of f = option_map (λ number. (f, IfLeft number)) (number_of f)
 
--- the features of the planner's list, and those of the user's alone
+-- the features of the planner's list, and those that only the user's has
 abbrev pub features : {F : Type 0} → (F → Option ℕ) → List F → List F → List (F × When)
 features number_of planner user =
     map (planner_feature number_of) planner ++ filter_map (user_feature number_of) user
 
--- the list has what either model has of the kind, each with the condition under which it is there
+-- the list has each feature of the kind that a model has, with the condition under which it is there
 pub record AreFeatures (models : Models) (F : Type 0) (place : F → Place)
     (list : List (F × When)) : Type 0 where
   pub each : (feature : F × When) → Contains list feature

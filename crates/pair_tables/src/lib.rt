@@ -1,4 +1,4 @@
-//! The case table of two models over lists of what may be reached in them.
+//! The case table of two models over lists of reachable atoms and actions.
 #![tactic(auto)]
 
 mod features;

@@ -1,3 +1,5 @@
+//! The numbers of listed atoms.
+
 ghost use Rattle.std.specs.Prelude.{◌≡◌, ◌≤◌, length, unwrap_or, IfOk};
 ghost use Rattle.std.specs.BTreeMap.{get};
 ghost use Rattle.model_kit.specs.Judging.{atom_cmp};

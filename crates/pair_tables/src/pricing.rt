@@ -1,3 +1,5 @@
+//! The cost cases of ground actions.
+
 // What ground actions cost in two models.
 ghost use Rattle.std.specs.Prelude.{◌≡◌, ◌≤◌, length, IfOk};
 ghost use Rattle.model_kit.specs.Judging.{IsTableOf};
@@ -18,7 +20,7 @@ use mre_base::{List, NoMemory};
 use std::alloc::Global;
 use std::collections::BTreeMap;
 
-// The values of a function in either model, by the difference with this number.
+// The values of a function in both models, by the difference with this number.
 fn worths(difference: &Difference, number: u32) -> CaseValue
     ensures { result ≡ worths_of difference.now number }
 {

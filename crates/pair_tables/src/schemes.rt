@@ -1,3 +1,5 @@
+//! The features of each action schema with their conditions.
+
 // The action schemas of two models, each with the conditions on its features.
 ghost use Rattle.std.specs.Prelude.{◌≡◌, ◌<◌, ◌≤◌, length, IfOk};
 ghost use Rattle.model_kit.specs.declared.atom.GroundAtom.{GroundAtom};

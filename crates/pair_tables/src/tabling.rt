@@ -1,3 +1,5 @@
+//! The case table of two models.
+
 ghost use Rattle.std.specs.Prelude.{◌≡◌, ◌≤◌, length, map, All, IfOk};
 ghost use Rattle.model_kit.specs.Judging.{ArePlaced, IsTableOf as AreValuesOf};
 ghost use Rattle.model_kit.specs.Runs.{instance};

@@ -6,7 +6,7 @@ use mre_base::{List, NoMemory, Text};
 use std::alloc::Global;
 use std::test::Fail;
 
-// The word at a place, counted from 0, and no bytes where there is none.
+// The word at a place, counted from 0, and no bytes where there is no word.
 fn word(row: &str, place: usize) -> &str {
     match row.split_whitespace().nth(place) {
         Some(word) => word,
@@ -30,7 +30,7 @@ fn number_of(rows: &str, name: &str) -> u32 {
     number
 }
 
-// The numbers that the words behind the first have among some rows.
+// The numbers that the words after the first have among some rows.
 fn numbers(alloc: Global, rows: &str, row: &str) -> Result<List<u32>, NoMemory> {
     let mut made = List::empty(alloc);
     for name in row.split_whitespace().skip(1) {

@@ -1,9 +1,8 @@
 //! Three models as rows of names: two ways to one goal, a graph of roads, and a delivery by truck.
 
 /// The lists of a model. Entries have a comma between them, and schemas a semicolon. A type or an
-/// object stands before its type, and a
-/// predicate, a function or an action before the types of its parameters. A schema is what it
-/// needs, adds, deletes and costs.
+/// object comes before its type, and a predicate, a function or an action before the types of its
+/// parameters. A schema is its preconditions, adds, deletes and cost.
 #[derive(Clone, Copy)]
 pub struct Rows {
     pub types: &'static str,
@@ -47,7 +46,7 @@ pub const ROADS: Rows = Rows {
     unknown: "",
 };
 
-/// A parcel is to come from the hub to the mill by truck. Types stand before and behind the types
+/// A parcel is to come from the hub to the mill by truck. Types come before and after the types
 /// above them.
 pub const DELIVERY: Rows = Rows {
     types: "object object, truck thing, thing object, parcel thing, depot place, place object, shop place",
