@@ -26,11 +26,7 @@ use Rattle.feature_diff.specs.Gathering.{Grows}
 use Rattle.feature_diff.specs.Parts.{GainsGroup}
 use Rattle.feature_diff.specs.Telling.{same_cost}
 use Rattle.feature_diff.proofs.JoinLemmas.{agreed_group, told_group}
-
-pub item_at : {X : Type 0} (xs : List X) (i : ℕ) → i < length xs → (x : X) × (slice_get xs i ≡ Some x)
-item_at [] i lt = absurd (omega (arith, lt))
-item_at (x ∷ xs) zero lt = (x, refl)
-item_at (x ∷ xs) (suc i) lt = item_at xs i (omega arith)
+use Rattle.mre_base.proofs.Listed.{item_at}
 
 within_and : (i n : ℕ) (b : Bool) → i < n → (nat_lt i n && b) ≡ b
 within_and i n b lt = grind (arith, nat_tests)

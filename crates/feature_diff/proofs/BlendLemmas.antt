@@ -19,7 +19,6 @@ use Rattle.model_kit.specs.Features.{is_model, is_cost, is_value, is_action, sam
 use Rattle.model_kit.specs.Vocabulary.{is_ground_atom, is_schema_atom}
 use Rattle.model_kit.specs.declared.atom.GroundAtom.{GroundAtom}
 use Rattle.model_kit.specs.declared.model.CostExpr.{CostExpr}
-use Rattle.feature_diff.proofs.ActionLemmas.{item_at}
 use Rattle.mre_base.proofs.Loops.{take_item}
 use Rattle.model_kit.proofs.Alike.{same_atom-decides, same_schema_atom-decides}
 use Rattle.model_kit.proofs.Distinct.{ListFacts}
@@ -27,6 +26,8 @@ use Rattle.model_kit.proofs.ModelFacts.{SchemaFacts, ModelFacts, facts_of_model,
 use Rattle.feature_diff.specs.Blending.{those, blended, blended_schema, AreBlended, IsBlend}
 use Rattle.feature_diff.proofs.JoinLemmas.{pairs_append}
 use Rattle.feature_diff.proofs.ValueLemmas.{key_decides}
+use Rattle.mre_base.proofs.Listed.{item_at}
+use Rattle.mre_base.proofs.Tests.{or_false}
 
 -- ---- the loop that keeps some entries
 
@@ -96,10 +97,6 @@ module _ {X : Type 0} (hits : X → Bool) (test : X → Bool) (b : Bool) (agree 
       by : (c : Bool) → hits x ≡ false → list_any hits (cond c (x ∷ those test (not b) xs) (those test (not b) xs)) ≡ list_any hits (those test (not b) xs)
       by true miss = ap (λ d. d || list_any hits (those test (not b) xs)) miss
       by false miss = refl
-
-or_false : (b : Bool) → (b || false) ≡ b
-or_false true = refl
-or_false false = refl
 
 -- an entry is in a blended list where it is in the list that its test picks
 any_blended : {X : Type 0} (hits test : X → Bool) (b : Bool) → ((x : X) → hits x ≡ true → test x ≡ b) → (ps us : List X) → list_any hits (blended test ps us) ≡ cond b (list_any hits ps) (list_any hits us)

@@ -10,7 +10,6 @@ use Rattle.model_kit.specs.declared.model.Model.{Model}
 use Rattle.model_kit.specs.Places.{Place, meaning}
 use Rattle.model_kit.specs.Differences.{group, IsPrintedBefore, IsListedBefore}
 use Rattle.model_kit.specs.Printed.{printed}
-use Rattle.model_kit.proofs.StepLemmas.{map_contains, contained_map}
 use Rattle.model_kit.proofs.ListLemmas.{flat_contains}
 use Rattle.feature_diff.specs.declared.difference.Difference.{Difference}
 use Rattle.feature_diff.specs.declared.rows.Row.{Row}
@@ -18,7 +17,7 @@ use Rattle.feature_diff.specs.Differing.{place_of, places_of}
 use Rattle.feature_diff.specs.Rows.{StandsAt, IsRow, AreRows}
 use Rattle.feature_diff.specs.Gathering.{alone_at, both_at, spots_told, row_told}
 use Rattle.feature_diff.specs.Parts.{IsOne, IsPart}
-use Rattle.feature_diff.proofs.RowLemmas.{contains_at, place_of_contained}
+use Rattle.mre_base.proofs.Listed.{item_contained, place_of_contained, map-contains, contains-map}
 
 -- ---- a form in a list of entries
 
@@ -27,11 +26,11 @@ mapped_at form xs i f at = by (slice_get xs i) refl (sym (slice_get-map form xs 
   where
     by : (o : Option _) → slice_get xs i ≡ o → option_map form o ≡ Some f → (x : _) × Contains xs x × (form x ≡ f)
     by None is e = absurd (cc)
-    by (Some x) is e = (x, contains_at xs i x is, cc)
+    by (Some x) is e = (x, item_contained xs i x is, cc)
 
 none_mapped : {X : Type 0} (form : X → List ℕ) (xs : List X) (f : List ℕ) → StandsAt (map form xs) (length (map form xs)) f None → (x : X) → Contains xs x → form x ≢ f
 none_mapped form xs f absent x there is =
-    let at = place_of_contained (map form xs) (form x) (map_contains form xs x there) in
+    let at = place_of_contained (map form xs) (form x) (map-contains form xs x there) in
     absent at.0 (slice_get_within (map form xs) at.0 (form x) at.1) (at.1 ∙ ap Some is)
 
 pairs_head : {X : Type 0} (R : X → X → Type 0) (x : X) (xs : List X) → AllPairs R (x ∷ xs) → All (R x) xs
@@ -152,7 +151,7 @@ module _ (planner user : Model) (g : ℕ) where
           by None is e = absurd (cc)
           by (Some x) is e =
               let same : form x ≡ f = cc in
-              let there = contains_at ps i x is in
+              let there = item_contained ps i x is in
               one_told f x (alone x true) (inl there) same (tells.planner_alone x there (λ y in_y eq. none_mapped form us f no_u y in_y (eq ∙ same))) (tells.placed x true)
       spots_good f None (Some j) no_p at = by (slice_get us j) refl (sym (slice_get-map form us j) ∙ at)
         where
@@ -160,14 +159,14 @@ module _ (planner user : Model) (g : ℕ) where
           by None is e = absurd (cc)
           by (Some y) is e =
               let same : form y ≡ f = cc in
-              let there = contains_at us j y is in
+              let there = item_contained us j y is in
               one_told f y (alone y false) (inr there) same (tells.user_alone y there (λ x in_x eq. none_mapped form ps f no_p x in_x (eq ∙ same))) (tells.placed y false)
       spots_good f (Some i) (Some j) at other = by (slice_get ps i) (slice_get us j) refl refl (sym (slice_get-map form ps i) ∙ at) (sym (slice_get-map form us j) ∙ other)
         where
           by : (o q : Option X) → slice_get ps i ≡ o → slice_get us j ≡ q → option_map form o ≡ Some f → option_map form q ≡ Some f → IsGood f (both_at alone both o q)
           by None q is_o is_q e h = absurd (cc)
           by (Some x) None is_o is_q e h = absurd (cc)
-          by (Some x) (Some y) is_o is_q e h = let same : form x ≡ f = cc in let too : form y ≡ f = cc in both_told f x y (contains_at ps i x is_o) (contains_at us j y is_q) same too
+          by (Some x) (Some y) is_o is_q e h = let same : form x ≡ f = cc in let too : form y ≡ f = cc in both_told f x y (item_contained ps i x is_o) (item_contained us j y is_q) same too
 
       module _ (rows : List Row) (are : AreRows (map form ps) (map form us) rows) where
         abbrev told : Row → List Difference
@@ -181,11 +180,11 @@ module _ (planner user : Model) (g : ℕ) where
 
         entry_told : (x : X) → IsIn x → Agrees (place x) ⊎ Contains (places_of (flat_map told rows)) (place x)
         entry_told x there =
-            let at = are.complete (form x) (⊎_elim (λ p. inl (map_contains form ps x p)) (λ u. inr (map_contains form us x u)) there) in
+            let at = are.complete (form x) (⊎_elim (λ p. inl (map-contains form ps x p)) (λ u. inr (map-contains form us x u)) there) in
             ⊎_elim (λ same. inl same)
             (λ listed.
-            let d = contained_map place_of (told at.0) (place x) listed in
-            inr (subst (Contains (places_of (flat_map told rows))) d.2 (map_contains place_of (flat_map told rows) d.0 (flat_contains told rows at.0 d.0 at.1 d.1))))
+            let d = contains-map place_of (told at.0) (place x) listed in
+            inr (subst (Contains (places_of (flat_map told rows))) d.2 (map-contains place_of (flat_map told rows) d.0 (flat_contains told rows at.0 d.0 at.1 d.1))))
             ((All-contains (λ r. IsGood r.form (told r)) rows at.0 each_good at.1).1 x there (sym at.2))
 
         pub group_part : IsPart planner user (λ n. n ≡ g) (flat_map told rows)

@@ -13,7 +13,6 @@ use Rattle.model_kit.specs.Places as place
 use Rattle.model_kit.specs.Places.{Place, Feature, Price, Nothing, meaning, schema_has}
 use Rattle.model_kit.specs.Differences.{group, IsListedBefore}
 use Rattle.model_kit.specs.Same.{same_schema_atom}
-use Rattle.model_kit.proofs.StepLemmas.{contained_map}
 use Rattle.feature_diff.specs.declared.difference.Difference.{Difference}
 use Rattle.feature_diff.specs.declared.gathered.Gathered.{Gathered}
 use Rattle.feature_diff.specs.Differing.{place_of, places_of, Says, FitsWords, AreDifferencesOf, AreTooMany}
@@ -22,6 +21,7 @@ use Rattle.feature_diff.specs.Parts.{IsOne, IsPart, GainsGroup, IsGathered}
 use Rattle.feature_diff.proofs.GatherLemmas.{grows_none}
 use Rattle.feature_diff.proofs.GroupLemmas.{pairs_nil}
 use Rattle.feature_diff.proofs.ValueLemmas.{no_knowledge, no_content}
+use Rattle.mre_base.proofs.Listed.{contains-map}
 
 pub pairs_append : {X : Type 0} (R : X → X → Type 0) (xs ys : List X) → AllPairs R xs → AllPairs R ys → All (λ x. All (R x) ys) xs → AllPairs R (xs ++ ys)
 pairs_append R [] ys first second across = second
@@ -115,7 +115,7 @@ module _ (planner user : Model) where
     all_told : (ds : List Difference) → IsPart planner user (λ n. n < 3 + 5 * length planner.words.actions) ds → AreDifferencesOf planner user ds
     all_told ds part = record {
       all = record {
-        differ = λ p there. let d = contained_map place_of ds p there in subst (λ q. meaning planner q ≢ meaning user q) d.2 (All-contains (IsOne planner user (λ n. n < 3 + 5 * length planner.words.actions)) ds d.0 part.each d.1).differ;
+        differ = λ p there. let d = contains-map place_of ds p there in subst (λ q. meaning planner q ≢ meaning user q) d.2 (All-contains (IsOne planner user (λ n. n < 3 + 5 * length planner.words.actions)) ds d.0 part.each d.1).differ;
         agree = λ p none.
             ⊎_elim (λ same. beyond p (omega (arith, same)))
             (λ apart. ⊎_elim (λ less. ⊎_elim (λ e. e) (λ there. absurd (none there)) (part.complete p less)) (λ more. beyond p (omega (arith, more))) apart)

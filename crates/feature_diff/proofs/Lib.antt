@@ -9,4 +9,3 @@ pub mod JoinLemmas
 pub mod ActionLemmas
 pub mod ToldLemmas
 pub mod BlendLemmas
-pub mod OneListLemmas

@@ -23,6 +23,7 @@ use Rattle.feature_diff.specs.declared.form.Form.{Form}
 use Rattle.feature_diff.specs.declared.rows.Spots.{Spots}
 use Rattle.feature_diff.specs.declared.rows.Row.{Row}
 use Rattle.feature_diff.specs.Rows.{form_cmp, StandsAt, spots_of, IsTable, IsRow, AreRows}
+use Rattle.mre_base.proofs.Listed.{item_contained, place_of_contained}
 
 -- keys that tie have one text
 tie_text : (key q : Form) → is_eq (form_cmp key q) ≡ true → key.text ≡ q.text
@@ -84,14 +85,6 @@ row_of entry = record { form = entry.0.text; spots = entry.1 }
 form_total : IsTotalOrder form_cmp
 form_total = on_total (λ f. f.text) nat_list_cmp_total
 
--- the item at a place is contained
-pub contains_at : {X : Type 0} (xs : List X) (i : ℕ) (x : X) → slice_get xs i ≡ Some x → Contains xs x
-contains_at xs i x at = (i, slice_get_within xs i x at, get_or_from_slice_get xs i x x at)
-
--- and what is contained is at some place
-pub place_of_contained : {X : Type 0} (xs : List X) (x : X) → Contains xs x → (i : ℕ) × (slice_get xs i ≡ Some x)
-place_of_contained xs x (i, lt, is) = (i, slice_get-get_or xs i x lt ∙ ap Some is)
-
 abbrev Ascends : Row → Row → Type 0
 Ascends r s = IsPrintedBefore r.form s.form
 
@@ -125,7 +118,7 @@ module _ (table : BTreeMap Form Spots) (sorted : IsOrdered form_cmp table) (plan
       let key : Form = record { text = form } in
       let at = place_from_lookup (is_at (form_cmp key)) table.entries spots is in
       let tie : form ≡ at.1.text = tie_text key at.1 at.3 in
-      (row_of (at.1, spots), contains_at (map row_of table.entries) at.0 (row_of (at.1, spots)) (slice_get-map row_of table.entries at.0 ∙ ap (option_map row_of) at.2), sym tie)
+      (row_of (at.1, spots), item_contained (map row_of table.entries) at.0 (row_of (at.1, spots)) (slice_get-map row_of table.entries at.0 ∙ ap (option_map row_of) at.2), sym tie)
 
   pub entries_rows : AreRows planner user (map row_of table.entries)
   entries_rows = record {

@@ -17,11 +17,11 @@ use Rattle.model_kit.specs.declared.action.GroundAction.{GroundAction}
 use Rattle.model_kit.specs.Differences.{IsPrintedBefore}
 use Rattle.model_kit.specs.Printed.{action_form}
 use Rattle.model_kit.specs.Vocabulary.{IsGroundAction}
-use Rattle.reach_kit.proofs.ListFacts.{contains_item}
 use Rattle.named_tables.specs.Numbered.{AreNumbersOf}
 use Rattle.ground_core.specs.ActionForms.{action_form-injective}
 use Rattle.ground_core.specs.Names.{AreNamed, AreListed, IsUnlisted}
 use Rattle.ground_core.proofs.OrderLemmas.{text_cmp, tie_same, same_tie}
+use Rattle.mre_base.proofs.Listed.{item_contained}
 
 -- forms that ascend rise for a search
 sorted_names : (names : List (List ℕ)) → AllPairs IsPrintedBefore names → IsSortedBy (λ a b. is_lt (text_cmp a b)) names
@@ -90,4 +90,4 @@ numbers_by_names words actions fit (number ∷ numbers) (step ∷ plan) plan_fit
     by None at is = absurd (cc)
     by (Some action) at is =
         let same : action_form words action ≡ action_form words step = cc in
-        at ∙ ap Some (action_form-injective words action step (All-contains (IsGroundAction words) actions action fit (contains_item actions number action at)) (plan_fits 0 step (omega arith)) same)
+        at ∙ ap Some (action_form-injective words action step (All-contains (IsGroundAction words) actions action fit (item_contained actions number action at)) (plan_fits 0 step (omega arith)) same)

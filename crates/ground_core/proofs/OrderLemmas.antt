@@ -21,10 +21,10 @@ use Rattle.std.proofs.lemmas.Option.{slice_get-get_or}
 use Rattle.std.proofs.lemmas.Slice.Eq.{bytes_eq-Decides}
 use Rattle.mre_base.proofs.Loops.{take_item}
 use Rattle.model_kit.specs.Differences.{IsPrintedBefore}
-use Rattle.model_kit.proofs.StepLemmas.{map_contains, contained_map}
-use Rattle.reach_kit.proofs.ListFacts.{contains_item}
 use Rattle.ground_core.specs.declared.ordering.InOrder.{InOrder}
 use Rattle.ground_core.specs.Ordered.{IsIndexOf, IsIndex, IsLaidOut, IsInOrder}
+use Rattle.mre_base.proofs.Listed.{item_contained, map_same, map-contains, contains-map}
+use Rattle.mre_base.proofs.Options.{same_some}
 
 abbrev pub text_cmp : List ℕ → List ℕ → Ordering
 text_cmp = slice_cmp nat_cmp
@@ -35,17 +35,6 @@ tie_same key name tie = (bytes_eq-Decides key name).0 (sym (is_eq-slice_cmp key 
 
 pub same_tie : (key name : List ℕ) → key ≡ name → is_eq (text_cmp key name) ≡ true
 same_tie key name same = is_eq-slice_cmp key name ∙ (bytes_eq-Decides key name).1 same
-
-some_same : {X : Type 0} (x y : X) → Some x ≡ Some y → x ≡ y
-some_same x y e = cc
-
--- where two functions agree on the items, the mapped lists are one
-mapped_same : {X Y : Type 0} (f g : X → Y) (xs : List X) → All (λ x. f x ≡ g x) xs → map f xs ≡ map g xs
-mapped_same f g [] all = refl
-mapped_same f g (x ∷ xs) all =
-    let first : f x ≡ g x = all 0 x (omega arith) in
-    let rest : map f xs ≡ map g xs = mapped_same f g xs (λ k d lt. all (suc k) d (omega arith)) in
-    λ i. first i ∷ rest i
 
 module _ {X : Type 0} (form : X → List ℕ) where
   -- nothing is there before the first thing
@@ -89,7 +78,7 @@ module _ {X : Type 0} (form : X → List ℕ) where
             ⊎_elim
             (λ tie.
             let same = tie_same key name tie in
-            let one : x ≡ y = sym thing_is ∙ some_same thing y (sym (hit name same) ∙ is) in
+            let one : x ≡ y = sym thing_is ∙ same_some thing y (sym (hit name same) ∙ is) in
             (subst (Contains (take (i + 1) things)) one x_there, ap form (sym one) ∙ sym key_is ∙ same))
             (λ none.
             let (there, named) = before.each name y (sym (miss name none) ∙ is) in
@@ -121,7 +110,7 @@ module _ {X : Type 0} (form : X → List ℕ) where
 
   pub laid_in_order : (things : List X) (index : BTreeMap (List ℕ) X) (made : InOrder X) → IsIndex form things index → IsLaidOut index made → IsInOrder form things made
   laid_in_order things index made is laid = record {
-    named = laid.names ∙ mapped_same (λ e. e.0) (λ e. form e.1) index.entries entries_named ∙ sym (mapped_twice index.entries) ∙ ap (map form) (sym laid.things);
+    named = laid.names ∙ map_same (λ e. e.0) (λ e. form e.1) index.entries entries_named ∙ sym (mapped_twice index.entries) ∙ ap (map form) (sym laid.things);
     ascend = subst (AllPairs IsPrintedBefore) (sym laid.names) (ascending index.entries laid.ordered);
     same = λ x. (to x, from x);
     few = let few = is.few in let same = ap length laid.things ∙ length-map index.entries (λ e. e.1) in omega (arith, same, few);
@@ -139,13 +128,13 @@ module _ {X : Type 0} (form : X → List ℕ) where
 
       to : (x : X) → Contains made.things x → Contains things x
       to x there =
-          let (e, (k, lt, here), same) = contained_map (λ (e : List ℕ × X). e.1) index.entries x (subst (λ list. Contains list x) laid.things there) in
+          let (e, (k, lt, here), same) = contains-map (λ (e : List ℕ × X). e.1) index.entries x (subst (λ list. Contains list x) laid.things there) in
           subst (Contains things) same (entry_is k e (slice_get-get_or index.entries k e lt ∙ ap Some here)).0
 
       from : (x : X) → Contains things x → Contains made.things x
       from x there =
           let at = place_from_lookup (is_at (text_cmp (form x))) index.entries x (is.all x there) in
-          subst (λ list. Contains list x) (sym laid.things) (map_contains (λ (e : List ℕ × X). e.1) index.entries (at.1, x) (contains_item index.entries at.0 (at.1, x) at.2))
+          subst (λ list. Contains list x) (sym laid.things) (map-contains (λ (e : List ℕ × X). e.1) index.entries (at.1, x) (item_contained index.entries at.0 (at.1, x) at.2))
 
 -- an insertion makes at most one entry more
 pub one_more : (new old : ℕ) (was : Bool) → new ≡ old + (if was then 0 else 1) → new ≤ old + 1

@@ -12,7 +12,6 @@ use Rattle.model_kit.specs.declared.vocabulary.Signature.{Signature}
 use Rattle.model_kit.specs.Same.{same_numbers}
 use Rattle.model_kit.specs.Pairs.{type_name, typed_names, Agree}
 use Rattle.model_kit.proofs.Alike.{same_numbers-decides}
-use Rattle.model_kit.proofs.StepLemmas.{map_contains, contained_map}
 use Rattle.model_kit.proofs.WordFacts.{facts_of_words}
 use Rattle.joint_models.specs.declared.group.Group.{Group}
 use Rattle.joint_models.specs.declared.group.Group.TheVariants.{Types, Objects, Actions, Predicates, Functions}
@@ -21,6 +20,7 @@ use Rattle.joint_models.specs.Listed.{typed_entry, entry_named}
 use Rattle.joint_models.specs.Disagreements.{entries_in, has, AreAlike, is_shared, AgreeIn, IsFirstDisagreement}
 use Rattle.joint_models.specs.Searching.{have_same_types}
 use Rattle.joint_models.proofs.Entries.{NamesDiffer, entry_cases, entry_has_name, entry_is}
+use Rattle.mre_base.proofs.Listed.{item_contained, place_of_contained, map-contains, contains-map}
 
 -- ---- what is alike
 
@@ -125,31 +125,25 @@ entries_apart Actions words = (facts_of_words words).actions_kept.apart
 entries_apart Predicates words = (facts_of_words words).predicates_kept.apart
 entries_apart Functions words = (facts_of_words words).functions_kept.apart
 
-pub contained_at : {X : Type 0} (xs : List X) (x : X) → Contains xs x → (k : ℕ) × (slice_get xs k ≡ Some x)
-contained_at xs x (k, lt, is) = (k, slice_get-get_or xs k x lt ∙ ap Some is)
-
-pub at_contained : {X : Type 0} (xs : List X) (k : ℕ) (x : X) → slice_get xs k ≡ Some x → Contains xs x
-at_contained xs k x at = (k, slice_get_within xs k x at, get_or_from_slice_get xs k x x at)
-
 -- ---- types and objects
 
 module _ (words : Vocabulary) (es : List (List ℕ × ℕ)) where
   has_to_listed : (name : List ℕ) (types : List (List ℕ)) → has_of words (map typed_entry es) name ≡ Some types → (t : List ℕ) × (types ≡ t ∷ []) × Contains (typed_names words es) (name, t)
   has_to_listed name types had =
       let entry = has_entry words (map typed_entry es) name types had in
-      let listed = contained_map typed_entry es entry.0 (at_contained (map typed_entry es) _ entry.0 entry.1) in
+      let listed = contains-map typed_entry es entry.0 (item_contained (map typed_entry es) _ entry.0 entry.1) in
       let e = listed.0 in
       let named : e.0 ≡ name = ap (λ s. s.name) listed.2 ∙ entry_has_name (map typed_entry es) name entry.0 entry.1 in (
         type_name words e.1,
         sym entry.2 ∙ ap (λ s. map (type_name words) s.params) (sym listed.2),
-        subst (Contains (typed_names words es)) (λ i. (named i, type_name words e.1)) (map_contains (λ entry. (entry.0, type_name words entry.1)) es e listed.1),
+        subst (Contains (typed_names words es)) (λ i. (named i, type_name words e.1)) (map-contains (λ entry. (entry.0, type_name words entry.1)) es e listed.1),
       )
 
   listed_to_has : NamesDiffer (map typed_entry es) → (name t : List ℕ) → Contains (typed_names words es) (name, t) → has_of words (map typed_entry es) name ≡ Some (t ∷ [])
   listed_to_has apart name t there =
-      let listed = contained_map (λ entry. (entry.0, type_name words entry.1)) es (name, t) there in
+      let listed = contains-map (λ entry. (entry.0, type_name words entry.1)) es (name, t) there in
       let e = listed.0 in
-      let at = contained_at (map typed_entry es) (typed_entry e) (map_contains typed_entry es e listed.1) in
+      let at = place_of_contained (map typed_entry es) (typed_entry e) (map-contains typed_entry es e listed.1) in
       let named : e.0 ≡ name = ap (λ p. p.0) listed.2 in
       subst (λ n. has_of words (map typed_entry es) n ≡ Some (t ∷ [])) named
       (has_from words (map typed_entry es) e.0 (typed_entry e) (entry_is (map typed_entry es) apart at.0 (typed_entry e) at.1)
@@ -183,13 +177,13 @@ module _ (one two : Vocabulary) (ss ts : List Signature) (one_apart : NamesDiffe
       alike_by (has_of one ss name) (has_of two ts name) (λ a b one_has two_has.
       let s = has_entry one ss name a one_has in
       let t = has_entry two ts name b two_has in
-      sym s.2 ∙ same s.0 t.0 (at_contained ss _ s.0 s.1) (at_contained ts _ t.0 t.1) (entry_has_name ss name s.0 s.1 ∙ sym (entry_has_name ts name t.0 t.1)) ∙ t.2)
+      sym s.2 ∙ same s.0 t.0 (item_contained ss _ s.0 s.1) (item_contained ts _ t.0 t.1) (entry_has_name ss name s.0 s.1 ∙ sym (entry_has_name ts name t.0 t.1)) ∙ t.2)
 
   params_from : ((name : List ℕ) → AreAlike false (has_of one ss name) (has_of two ts name))
       → (s t : Signature) → Contains ss s → Contains ts t → s.name ≡ t.name → map (type_name one) s.params ≡ map (type_name two) t.params
   params_from alike s t s_there t_there named =
-      let s_at = contained_at ss s s_there in
-      let t_at = contained_at ts t t_there in
+      let s_at = place_of_contained ss s s_there in
+      let t_at = place_of_contained ts t t_there in
       alike_both (has_of one ss s.name) (has_of two ts s.name) (alike s.name) (map (type_name one) s.params) (map (type_name two) t.params)
       (has_from one ss s.name s (entry_is ss one_apart s_at.0 s s_at.1))
       (has_from two ts s.name t (ap (entry_named ts) named ∙ entry_is ts two_apart t_at.0 t t_at.1))

@@ -30,9 +30,10 @@ use Rattle.joint_models.specs.Listed.{entry_named}
 use Rattle.joint_models.specs.Renaming.{atom_by, value_by, schema_by, schema_by_name, AreSchemasFor, unknown_among, IsPartOf}
 use Rattle.joint_models.proofs.Entries.{entry_has_name, number_is}
 use Rattle.joint_models.proofs.Alikeness.{entries_apart}
-use Rattle.joint_models.proofs.Mapped.{item_at, range_apart}
+use Rattle.joint_models.proofs.Mapped.{range_apart}
 use Rattle.joint_models.proofs.Keeping.{types_listed, renamed, entry_kept, name_at}
 use Rattle.joint_models.proofs.Renumbered.{atoms_kept, values_kept, schema_kept, atoms_are, values_are, schema_is}
+use Rattle.mre_base.proofs.Listed.{item_at}
 
 module _ (words : Vocabulary) (model : Model) (lists : Lists) (numbers : Numbers) (part : IsPartOf words model lists numbers) where
   -- an action of the model with the schema at its place

@@ -23,9 +23,10 @@ use Rattle.joint_models.specs.Disagreements.{entries_in, has}
 use Rattle.joint_models.specs.Renaming.{number_at, numbers_between, joined_by, HasAllOf, HasAll}
 use Rattle.joint_models.proofs.Entries.{entry_has_name, entry_is, not_named, is_named_at, entry_if_named}
 use Rattle.joint_models.proofs.Alikeness.{has_of, has_from, has_entry, entries_apart, alike_in, alike_both}
-use Rattle.joint_models.proofs.Mapped.{same_maps, map_map, apart_append, apart_map, all_at, at_mapped, item_at, typed_names_are, entry_append, entry_after, entry_passing, entry_retyped, number_between}
+use Rattle.joint_models.proofs.Mapped.{map_map, apart_append, apart_map, all_at, at_mapped, typed_names_are, entry_append, entry_after, entry_passing, entry_retyped, number_between}
 use Rattle.joint_models.proofs.Growing.{retyped}
 use Rattle.joint_models.proofs.Keeping.{typed_at, renamed}
+use Rattle.mre_base.proofs.Listed.{item_at, map_same}
 
 module _ (planner user : Vocabulary) (agree : Agree planner user) where
   -- the planner's number of a user's type
@@ -64,13 +65,13 @@ module _ (planner user : Vocabulary) (agree : Agree planner user) where
     pub joined_is : joined_by new_types ss ts ≡ joint_of ss ts
     joined_is =
         ap (λ rest. ss ++ rest)
-        (same_maps (retyped new_types) (renamed user planner) (filter (λ s. not (is_named ss s.name)) ts)
+        (map_same (retyped new_types) (renamed user planner) (filter (λ s. not (is_named ss s.name)) ts)
         (All-filter (λ s. not (is_named ss s.name)) (λ s. retyped new_types s ≡ renamed user planner s) ts
         (All-weaker (λ s. All (λ t. t < length user.types) s.params) (λ s. retyped new_types s ≡ renamed user planner s) retyped_is ts params_listed)))
       where
         retyped_is : (s : Signature) → All (λ t. t < length user.types) s.params → retyped new_types s ≡ renamed user planner s
         retyped_is s listed =
-            let params = same_maps (number_at new_types) (type_in user planner) s.params (λ k d lt. new_type (get_or s.params k d) (listed k d lt)) in
+            let params = map_same (number_at new_types) (type_in user planner) s.params (λ k d lt. new_type (get_or s.params k d) (listed k d lt)) in
             λ i. record { name = s.name; params = params i }
 
     renamed_passes : (s : Signature) → IsTrue (is_signature user.types s) → IsTrue (is_signature planner.types (renamed user planner s))
@@ -156,7 +157,7 @@ module _ (planner user : Vocabulary) (agree : Agree planner user) where
         (entry_passing (λ n. not (is_named ss n)) ts name (ap not not_there) ∙ at))
         ∙ ap (λ f. Some (map f (map (type_in user planner) t.params))) names_stay
         ∙ ap Some (map_map (type_name planner) (type_in user planner) t.params
-        ∙ same_maps (λ p. type_name planner (type_in user planner p)) (type_name user) t.params (λ k d lt. (type_there (get_or t.params k d) (listed k d lt)).1))
+        ∙ map_same (λ p. type_name planner (type_in user planner p)) (type_name user) t.params (λ k d lt. (type_there (get_or t.params k d) (listed k d lt)).1))
 
     pub planner_whole : HasAllOf words planner
     planner_whole Types name types had =

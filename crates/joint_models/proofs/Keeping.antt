@@ -24,7 +24,8 @@ use Rattle.joint_models.specs.Disagreements.{entries_in}
 use Rattle.joint_models.specs.Renaming.{HasAllOf}
 use Rattle.joint_models.proofs.Entries.{number_is, entry_is, entry_has_name}
 use Rattle.joint_models.proofs.Alikeness.{has_from, has_entry, entries_apart}
-use Rattle.joint_models.proofs.Mapped.{same_maps, map_map, pointwise_kept, at_mapped, item_at, typed_names_are}
+use Rattle.joint_models.proofs.Mapped.{map_map, pointwise_kept, at_mapped, typed_names_are}
+use Rattle.mre_base.proofs.Listed.{item_at, map_same}
 
 -- the name of an entry of types or objects
 pub typed_name : (es : List (List ℕ × ℕ)) (n : ℕ) → name_of (map typed_entry es) n ≡ option_map_or (λ e. e.0) (slice_get es n) []
@@ -95,7 +96,7 @@ module _ (from words : Vocabulary) (all : HasAllOf words from) where
       let named : t.name ≡ s.name = entry_has_name (entries_in group words) s.name t kept.1 in
       let listed = types_listed group words (number_of (names (entries_in group words)) s.name) t kept.1 in
       let own : map (λ p. M (type_name words p)) t.params ≡ t.params =
-      same_maps (λ p. M (type_name words p)) (λ p. p) t.params (λ k d lt. type_number words (get_or t.params k d) (listed k d lt)) ∙ map-id t.params in
+      map_same (λ p. M (type_name words p)) (λ p. p) t.params (λ k d lt. type_number words (get_or t.params k d) (listed k d lt)) ∙ map-id t.params in
       let params : t.params ≡ map (type_in from words) s.params =
       sym own ∙ sym (map_map M (type_name words) t.params) ∙ ap (map M) kept.2 ∙ map_map M (type_name from) s.params in
       kept.1 ∙ (λ i. let made : Signature = record { name = named i; params = params i } in Some made)

@@ -16,15 +16,9 @@ use Rattle.model_kit.proofs.Distinct.{ListFacts}
 use Rattle.joint_models.specs.Listed.{typed_entry, entry_named}
 use Rattle.joint_models.specs.Renaming.{numbers_between}
 use Rattle.joint_models.proofs.Entries.{entry_first, entry_later, other_name}
+use Rattle.mre_base.proofs.Listed.{item_at}
 
 -- ---- lists
-
-pub same_maps : {X Y : Type 0} (f g : X → Y) (xs : List X) → All (λ x. f x ≡ g x) xs → map f xs ≡ map g xs
-same_maps f g [] all = refl
-same_maps f g (x ∷ xs) all =
-    let here : f x ≡ g x = all 0 x (omega arith) in
-    let later = same_maps f g xs (λ k d lt. all (suc k) d (omega arith)) in
-    λ i. here i ∷ later i
 
 pub map_map : {X Y Z : Type 0} (f : Y → Z) (g : X → Y) (xs : List X) → map f (map g xs) ≡ map (λ x. f (g x)) xs
 map_map f g [] = refl
@@ -79,12 +73,6 @@ pub at_mapped : {X Y : Type 0} (f : X → Y) (xs : List X) (n : ℕ) (y : Y) →
 at_mapped f [] n y at = absurd (cc)
 at_mapped f (x ∷ xs) zero y at = (x, refl, (let is : f x ≡ y = cc in is))
 at_mapped f (x ∷ xs) (suc n) y at = at_mapped f xs n y at
-
--- the item at a place of a list
-pub item_at : {X : Type 0} (xs : List X) (n : ℕ) → n < length xs → (x : X) × (slice_get xs n ≡ Some x)
-item_at [] n lt = absurd (omega arith)
-item_at (x ∷ xs) zero lt = (x, refl)
-item_at (x ∷ xs) (suc n) lt = item_at xs n (omega arith)
 
 -- a function that keeps things apart keeps lists of them apart
 pub lists_apart : {X Y : Type 0} (P : X → Type 0) (f : X → Y) → ((x y : X) → P x → P y → f x ≡ f y → x ≡ y) → (xs ys : List X) → All P xs → All P ys → map f xs ≡ map f ys → xs ≡ ys

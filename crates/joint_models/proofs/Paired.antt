@@ -1,43 +1,14 @@
 -- Two models in the numbers of their joint vocabulary are a pair.
 use Rattle.std.proofs.Common.{◌≡◌, [], sym, subst, ◌∙◌}
-use Rattle.std.specs.Prelude.{IsTrue}
-use Rattle.std.proofs.Math.Bool.{Bool-set}
-use Rattle.std.proofs.Math.Path.{to_path_p}
 use Rattle.model_kit.specs.declared.vocabulary.Vocabulary.{Vocabulary}
 use Rattle.model_kit.specs.declared.model.Model.{Model}
-use Rattle.model_kit.specs.Words.{is_vocabulary}
 use Rattle.model_kit.specs.Pairs.{Agree, IsJoint, IsModelIn, ArePaired}
 use Rattle.joint_models.specs.declared.lists.Lists.{Lists}
 use Rattle.joint_models.specs.declared.numbers.Numbers.{Numbers}
 use Rattle.joint_models.specs.Lists.{AreListsOf}
 use Rattle.joint_models.specs.Renaming.{numbers_between, AreNumbers, HasAllOf, IsPartOf}
+use Rattle.model_kit.proofs.SameParts.{one_joint}
 use Rattle.joint_models.proofs.Joint.{planner_whole, user_whole}
-
--- there is only one joint vocabulary
-pub one_joint : (planner user v w : Vocabulary) → IsJoint planner user v → IsJoint planner user w → v ≡ w
-one_joint planner user v w v_is w_is = λ i. record {
-  types = types i;
-  objects = objects i;
-  predicates = predicates i;
-  functions = functions i;
-  actions = actions i;
-  sound = to_path_p (λ j. IsTrue (is_vocabulary (types j) (objects j) (predicates j) (functions j) (actions j))) {a = v.sound} {b = w.sound} (Bool-set _ _ _ _) i;
-}
-  where
-    types : v.types ≡ w.types
-    types = v_is.types ∙ sym w_is.types
-
-    objects : v.objects ≡ w.objects
-    objects = v_is.objects ∙ sym w_is.objects
-
-    predicates : v.predicates ≡ w.predicates
-    predicates = v_is.predicates ∙ sym w_is.predicates
-
-    functions : v.functions ≡ w.functions
-    functions = v_is.functions ∙ sym w_is.functions
-
-    actions : v.actions ≡ w.actions
-    actions = v_is.actions ∙ sym w_is.actions
 
 part_of : (words : Vocabulary) (model : Model) (lists joint_lists : Lists) (numbers : Numbers) → HasAllOf words model.words → AreListsOf model.words lists → AreListsOf words joint_lists → AreNumbers lists joint_lists numbers → IsPartOf words model lists numbers
 part_of words model lists joint_lists numbers whole own joint are = record {

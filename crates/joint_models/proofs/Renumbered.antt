@@ -26,8 +26,9 @@ use Rattle.joint_models.specs.declared.numbers.Numbers.{Numbers}
 use Rattle.joint_models.specs.Listed.{typed_entry}
 use Rattle.joint_models.specs.Disagreements.{entries_in}
 use Rattle.joint_models.specs.Renaming.{number_at, numbers_between, atom_by, term_by, schema_atom_by, cost_by, schema_by, value_by, HasAllOf, IsPartOf}
-use Rattle.joint_models.proofs.Mapped.{same_maps, list_kept, lists_apart, item_at, number_between}
+use Rattle.joint_models.proofs.Mapped.{list_kept, lists_apart, number_between}
 use Rattle.joint_models.proofs.Keeping.{name_at, in_number, object_in_is, object_kept, term_kept, fits_kept, number_apart}
+use Rattle.mre_base.proofs.Listed.{item_at, map_same}
 
 module _ (from words : Vocabulary) (all : HasAllOf words from) where
   -- ---- objects
@@ -133,7 +134,7 @@ module _ (words : Vocabulary) (model : Model) (lists : Lists) (numbers : Numbers
       by_number Objects numbers.objects part.objects o (rw (length-map model.words.objects typed_entry) lt) ∙ sym (object_in_is model.words words part.whole o)
 
   objects_are : (xs : List ℕ) → All (λ o. o < length model.words.objects) xs → map (number_at numbers.objects) xs ≡ map (object_in model.words words) xs
-  objects_are xs listed = same_maps (number_at numbers.objects) (object_in model.words words) xs (All-weaker (λ o. o < length model.words.objects) (λ o. number_at numbers.objects o ≡ object_in model.words words o) object_is xs listed)
+  objects_are xs listed = map_same (number_at numbers.objects) (object_in model.words words) xs (All-weaker (λ o. o < length model.words.objects) (λ o. number_at numbers.objects o ≡ object_in model.words words o) object_is xs listed)
 
   atom_is : (a : GroundAtom) → IsTrue (is_ground_atom model.words a) → atom_by numbers a ≡ atom_in model.words words a
   atom_is a fit =
@@ -142,7 +143,7 @@ module _ (words : Vocabulary) (model : Model) (lists : Lists) (numbers : Numbers
       λ i. record { predicate = predicate i; objects = objects i }
 
   pub atoms_are : (atoms : List GroundAtom) → All (λ a. IsTrue (is_ground_atom model.words a)) atoms → map (atom_by numbers) atoms ≡ map (atom_in model.words words) atoms
-  atoms_are atoms fit = same_maps (atom_by numbers) (atom_in model.words words) atoms (All-weaker (λ a. IsTrue (is_ground_atom model.words a)) (λ a. atom_by numbers a ≡ atom_in model.words words a) atom_is atoms fit)
+  atoms_are atoms fit = map_same (atom_by numbers) (atom_in model.words words) atoms (All-weaker (λ a. IsTrue (is_ground_atom model.words a)) (λ a. atom_by numbers a ≡ atom_in model.words words a) atom_is atoms fit)
 
   value_is : (v : ℕ × List ℕ × ℕ) → IsTrue (is_value model.words v) → value_by numbers v ≡ value_in model.words words v
   value_is v fit =
@@ -151,7 +152,7 @@ module _ (words : Vocabulary) (model : Model) (lists : Lists) (numbers : Numbers
       λ i. (function i, objects i, v.2)
 
   pub values_are : (values : List (ℕ × List ℕ × ℕ)) → All (λ v. IsTrue (is_value model.words v)) values → map (value_by numbers) values ≡ map (value_in model.words words) values
-  values_are values fit = same_maps (value_by numbers) (value_in model.words words) values (All-weaker (λ v. IsTrue (is_value model.words v)) (λ v. value_by numbers v ≡ value_in model.words words v) value_is values fit)
+  values_are values fit = map_same (value_by numbers) (value_in model.words words) values (All-weaker (λ v. IsTrue (is_value model.words v)) (λ v. value_by numbers v ≡ value_in model.words words v) value_is values fit)
 
   module _ (params : List ℕ) (listed : All (λ t. t < length model.words.types) params) where
     term_is : (term : Term) → IsFitting model.words words part.whole params listed term → term_by numbers term ≡ term_in model.words words term
@@ -159,7 +160,7 @@ module _ (words : Vocabulary) (model : Model) (lists : Lists) (numbers : Numbers
     term_is (Object o) fits = ap Object (object_is o (object_listed model.words o fits.0 fits.1))
 
     terms_are : (args : List Term) → All (IsFitting model.words words part.whole params listed) args → map (term_by numbers) args ≡ map (term_in model.words words) args
-    terms_are args fit = same_maps (term_by numbers) (term_in model.words words) args (All-weaker (IsFitting model.words words part.whole params listed) (λ t. term_by numbers t ≡ term_in model.words words t) term_is args fit)
+    terms_are args fit = map_same (term_by numbers) (term_in model.words words) args (All-weaker (IsFitting model.words words part.whole params listed) (λ t. term_by numbers t ≡ term_in model.words words t) term_is args fit)
 
     schema_atom_is : (a : SchemaAtom) → IsTrue (is_schema_atom model.words params a) → schema_atom_by numbers a ≡ schema_atom_in model.words words a
     schema_atom_is a fit =
@@ -169,7 +170,7 @@ module _ (words : Vocabulary) (model : Model) (lists : Lists) (numbers : Numbers
 
     schema_atoms_are : (atoms : List SchemaAtom) → All (λ a. IsTrue (is_schema_atom model.words params a)) atoms → map (schema_atom_by numbers) atoms ≡ map (schema_atom_in model.words words) atoms
     schema_atoms_are atoms fit =
-        same_maps (schema_atom_by numbers) (schema_atom_in model.words words) atoms (All-weaker (λ a. IsTrue (is_schema_atom model.words params a)) (λ a. schema_atom_by numbers a ≡ schema_atom_in model.words words a) schema_atom_is atoms fit)
+        map_same (schema_atom_by numbers) (schema_atom_in model.words words) atoms (All-weaker (λ a. IsTrue (is_schema_atom model.words params a)) (λ a. schema_atom_by numbers a ≡ schema_atom_in model.words words a) schema_atom_is atoms fit)
 
     cost_is : (cost : CostExpr) → is_cost model.words params cost ≡ true → cost_by numbers cost ≡ cost_in model.words words cost
     cost_is (Number n) fit = refl

@@ -16,13 +16,13 @@ use Rattle.model_kit.specs.Pairs.{names}
 use Rattle.model_kit.specs.Differences.{IsPrintedBefore}
 use Rattle.model_kit.proofs.Alike.{same_numbers-decides}
 use Rattle.mre_base.proofs.Loops.{take_item}
-use Rattle.model_kit.proofs.StepLemmas.{map_contains}
 use Rattle.joint_models.specs.declared.group.Group.{Group}
 use Rattle.joint_models.specs.Listed.{entry_named}
 use Rattle.joint_models.specs.Disagreements.{entries_in, has, AreAlike, is_shared, Disagree, AgreeIn, IsEarliest}
 use Rattle.joint_models.specs.Searching.{earlier_of, SeenWith, IsFirstSeen, IsFound, GoesOn}
 use Rattle.joint_models.proofs.Entries.{entry_cases, entry_has_name}
-use Rattle.joint_models.proofs.Alikeness.{alike_none, has_none, at_contained}
+use Rattle.joint_models.proofs.Alikeness.{alike_none, has_none}
+use Rattle.mre_base.proofs.Listed.{item_contained, map-contains}
 
 less_if : (one two : List ℕ) → is_lt (slice_cmp nat_cmp one two) ≡ true → IsPrintedBefore one two
 less_if one two e = by (slice_cmp nat_cmp one two) e
@@ -114,7 +114,7 @@ module _ (P : List ℕ → Type 0) (among : List Signature) (i : ℕ) (before : 
 module _ (group : Group) (planner user : Vocabulary) where
   named_in : (entries : List Signature) (name : List ℕ) (s : Signature) → entry_named entries name ≡ Some s → Contains (names entries) name
   named_in entries name s at =
-      subst (Contains (names entries)) (entry_has_name entries name s at) (map_contains (λ t. t.name) entries s (at_contained entries _ s at))
+      subst (Contains (names entries)) (entry_has_name entries name s at) (map-contains (λ t. t.name) entries s (item_contained entries _ s at))
 
   covered : (name : List ℕ) → Disagree group planner user name → Contains (names (entries_in group planner) ++ names (entries_in group user)) name
   covered name disagree =

@@ -31,9 +31,10 @@ use Rattle.model_kit.proofs.Fits.{entry_listed}
 use Rattle.model_kit.proofs.Ands.{and3}
 use Rattle.model_kit.proofs.Distinct.{all_decides}
 use Rattle.model_kit.proofs.ListLemmas.{beq-decides, range_contains, flat_contains}
-use Rattle.model_kit.proofs.StepLemmas.{map_contains, listed_from_any}
+use Rattle.model_kit.proofs.StepLemmas.{listed_from_any}
 use Rattle.model_kit.proofs.PatchedLemmas.{listed_atoms, has_listed}
 use Rattle.model_kit.proofs.PlaceLemmas.{listed_place, unlisted_place}
+use Rattle.mre_base.proofs.Listed.{map-contains}
 
 -- ---- contents
 
@@ -145,11 +146,11 @@ module _ (model : Model) where
   pub elsewhere : (p : Place) → ¬ Contains (listed_places model) p → meaning model p ≡ default p
   elsewhere (Init a) away =
       off (list_any (same_atom a) model.init) (Init a)
-      (λ on. Contains-append_left (map Init model.init) _ (Init a) (map_contains Init model.init a (listed_from_any same_atom same_atom-decides a model.init on))) away
+      (λ on. Contains-append_left (map Init model.init) _ (Init a) (map-contains Init model.init a (listed_from_any same_atom same_atom-decides a model.init on))) away
   elsewhere (Goal a) away =
       off (list_any (same_atom a) model.goal) (Goal a)
       (λ on. Contains-append_right (map Init model.init) _ (Goal a)
-      (Contains-append_left (map Goal model.goal) _ (Goal a) (map_contains Goal model.goal a (listed_from_any same_atom same_atom-decides a model.goal on)))) away
+      (Contains-append_left (map Goal model.goal) _ (Goal a) (map-contains Goal model.goal a (listed_from_any same_atom same_atom-decides a model.goal on)))) away
   elsewhere (Knows i) away =
       off (nat_lt i (length model.schemas) && not (list_any (λ unknown. unknown == i) model.unknown)) (Knows i)
       (λ on. in_schema i (Knows i) (leb-true (suc i) (length model.schemas) (and_parts (nat_lt i (length model.schemas)) _ on).0) (zero, omega arith, refl)) away
@@ -157,21 +158,21 @@ module _ (model : Model) where
       off (schema_has (λ s. s.pre) model i f) (Pre i f)
       (part_at (λ s. s.pre) Pre
       (λ j g at. in_rest (Knows j) (Cost j) _ (Pre j g)
-      (Contains-append_left (map (Pre j) (listed_atoms (λ s. s.pre) model j)) _ (Pre j g) (map_contains (Pre j) (listed_atoms (λ s. s.pre) model j) g at)))
+      (Contains-append_left (map (Pre j) (listed_atoms (λ s. s.pre) model j)) _ (Pre j g) (map-contains (Pre j) (listed_atoms (λ s. s.pre) model j) g at)))
       i f) away
   elsewhere (Add i f) away =
       off (schema_has (λ s. s.add) model i f) (Add i f)
       (part_at (λ s. s.add) Add
       (λ j g at. in_rest (Knows j) (Cost j) _ (Add j g)
       (Contains-append_right (map (Pre j) (listed_atoms (λ s. s.pre) model j)) _ (Add j g)
-      (Contains-append_left (map (Add j) (listed_atoms (λ s. s.add) model j)) _ (Add j g) (map_contains (Add j) (listed_atoms (λ s. s.add) model j) g at))))
+      (Contains-append_left (map (Add j) (listed_atoms (λ s. s.add) model j)) _ (Add j g) (map-contains (Add j) (listed_atoms (λ s. s.add) model j) g at))))
       i f) away
   elsewhere (Del i f) away =
       off (schema_has (λ s. s.del) model i f) (Del i f)
       (part_at (λ s. s.del) Del
       (λ j g at. in_rest (Knows j) (Cost j) _ (Del j g)
       (Contains-append_right (map (Pre j) (listed_atoms (λ s. s.pre) model j)) _ (Del j g)
-      (Contains-append_right (map (Add j) (listed_atoms (λ s. s.add) model j)) _ (Del j g) (map_contains (Del j) (listed_atoms (λ s. s.del) model j) g at))))
+      (Contains-append_right (map (Add j) (listed_atoms (λ s. s.add) model j)) _ (Del j g) (map-contains (Del j) (listed_atoms (λ s. s.del) model j) g at))))
       i f) away
   elsewhere (Cost i) away = by (slice_get model.schemas i) refl
     where
@@ -182,7 +183,7 @@ module _ (model : Model) where
       ap Worth (unvalued f xs model.values
       (λ v is at. away (Contains-append_right (map Init model.init) _ (Value f xs) (Contains-append_right (map Goal model.goal) _ (Value f xs)
       (Contains-append_right (flat_map (of_schema model) (range_with_len 0 (length model.schemas))) _ (Value f xs)
-      (subst (Contains (map (λ w. Value w.0 w.1) model.values)) is (map_contains (λ w. Value w.0 w.1) model.values v at)))))))
+      (subst (Contains (map (λ w. Value w.0 w.1) model.values)) is (map-contains (λ w. Value w.0 w.1) model.values v at)))))))
 
 -- ---- the test
 

@@ -12,9 +12,10 @@ use Rattle.mre_base.specs.Before.{numbers, is_lighter, is_before}
 use Rattle.model_kit.specs.Same.{same_numbers}
 use Rattle.model_kit.proofs.Alike.{same_numbers-decides}
 use Rattle.model_kit.proofs.Distinct.{all_decides}
-use Rattle.model_kit.proofs.StepLemmas.{map_contains, contained_map, listed_from_any, any_from_listed}
+use Rattle.model_kit.proofs.StepLemmas.{listed_from_any, any_from_listed}
 use Rattle.model_kit.proofs.OrderLemmas.{Within, contains_numbers}
 use Rattle.model_examples.specs.Told.{of}
+use Rattle.mre_base.proofs.Listed.{map-contains, contains-map}
 
 abbrev pub is_among : List ℕ → ℕ → Bool
 is_among xs q = list_any (λ k. k == q) xs
@@ -30,7 +31,7 @@ parts_all p [] = (zero, omega arith, refl)
 parts_all p (x ∷ xs) = by (p x) (parts_all p xs)
   where
     by : (b : Bool) → Contains (parts xs) (filter p xs) → Contains (map (λ ys. x ∷ ys) (parts xs) ++ parts xs) (cond b (x ∷ filter p xs) (filter p xs))
-    by true at = Contains-append_left (map (λ ys. x ∷ ys) (parts xs)) (parts xs) (x ∷ filter p xs) (map_contains (λ ys. x ∷ ys) (parts xs) (filter p xs) at)
+    by true at = Contains-append_left (map (λ ys. x ∷ ys) (parts xs)) (parts xs) (x ∷ filter p xs) (map-contains (λ ys. x ∷ ys) (parts xs) (filter p xs) at)
     by false at = Contains-append_right (map (λ ys. x ∷ ys) (parts xs)) (parts xs) (filter p xs) at
 
 -- the lists of numbers of all sets within 1 to d
@@ -122,9 +123,9 @@ is_listed lists xs = list_any (same_numbers xs) lists
 -- the set is one of those of the lists exactly where its numbers are listed
 pub listed_set : (d : ℕ) (lists : List (List ℕ)) → list_all (is_normal d) lists ≡ true → (told : set.FinSet nat_cmp) → Within d told → Decides (is_listed lists (numbers d told)) (Contains (map of lists) told)
 listed_set d lists normal told within = (
-  λ e. subst (Contains (map of lists)) (of_numbers d told within) (map_contains of lists (numbers d told) (listed_from_any same_numbers same_numbers-decides (numbers d told) lists e)),
+  λ e. subst (Contains (map of lists)) (of_numbers d told within) (map-contains of lists (numbers d told) (listed_from_any same_numbers same_numbers-decides (numbers d told) lists e)),
   λ at.
-      let one = contained_map of lists told at in
+      let one = contains-map of lists told at in
       let same : numbers d told ≡ one.0 = ap (numbers d) (sym one.2) ∙ numbers_of d one.0 (at_listed (is_normal d) lists normal one.0 one.1) in
       any_from_listed same_numbers same_numbers-decides (numbers d told) lists (subst (Contains lists) (sym same) one.1),
 )

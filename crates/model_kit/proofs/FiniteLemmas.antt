@@ -18,10 +18,10 @@ use Rattle.model_kit.specs.Places.{Place, Init, Goal, Pre, Add, Del, Meaning}
 use Rattle.model_kit.specs.Runs.{State, is_on, Has, instance, cost_of, Needs, Applies, After, Leads, Initial, IsGoal, cost, IsCheapest}
 use Rattle.model_kit.proofs.Alike.{same_atom-decides}
 use Rattle.model_kit.proofs.Distinct.{all_decides}
-use Rattle.model_kit.proofs.StepLemmas.{map_contains}
 use Rattle.model_kit.proofs.RunLemmas.{Alike}
 use Rattle.model_kit.proofs.WayLemmas.{Reaches, decided_way}
 use Rattle.model_kit.proofs.ListLemmas.{flat_contains, tuples, same_flags, same_flags-decides, both_flags, flags_all, all_actions, ground_listed}
+use Rattle.mre_base.proofs.Listed.{map-contains}
 
 -- the features that are on are listed
 pub record IsFinite (m : Meaning) : Type 0 where
@@ -190,7 +190,7 @@ module _ (words : Vocabulary) (m : Meaning) (fin : IsFinite m) where
       let one = (makes_decides Add (fin.adds action.schema) action (fin.add_listed action.schema) a).0 added in
       Contains-append_right fin.facts (flat_map (λ b. map (instance b.objects) (fin.adds b.schema)) (all_actions words)) a
       (flat_contains (λ b. map (instance b.objects) (fin.adds b.schema)) (all_actions words) action a (ground_listed words action fits)
-      (subst (Contains (map (instance action.objects) (fin.adds action.schema))) one.2 (map_contains (instance action.objects) (fin.adds action.schema) one.0 (fin.add_listed action.schema one.0 one.1)))))
+      (subst (Contains (map (instance action.objects) (fin.adds action.schema))) one.2 (map-contains (instance action.objects) (fin.adds action.schema) one.0 (fin.add_listed action.schema one.0 one.1)))))
       (or_cases (holds flags a && not (deletes_it action a)) (adds_it action a) e)
 
   -- the flags after an action say the successor

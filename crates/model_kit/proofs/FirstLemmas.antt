@@ -7,8 +7,10 @@ use Rattle.std.specs.FinSet as set
 use Rattle.std.proofs.lemmas.Bool.{true≢false, cases_Bool, eqb-true, eqb-false, and_parts, or_cases, not-true}
 use Rattle.std.proofs.lemmas.List.Elements.{Contains-append_left, Contains-append_right, Contains-append_cases}
 use Rattle.mre_base.specs.Before.{is_before}
-use Rattle.model_kit.proofs.StepLemmas.{map_contains, contained_map}
 use Rattle.model_kit.proofs.OrderLemmas.{Within, before_total, before_trans}
+use Rattle.mre_base.proofs.SetsBelow.{nat_tie}
+use Rattle.mre_base.proofs.Loops.{contains_later}
+use Rattle.mre_base.proofs.Listed.{map-contains, contains-map}
 
 abbrev Told : Type 0
 Told = set.FinSet nat_cmp
@@ -18,14 +20,11 @@ abbrev pub subsets : ℕ → List Told
 subsets zero = set.empty ∷ []
 subsets (suc n) = subsets n ++ map (λ s. set.insert s (suc n)) (subsets n)
 
-tie_is : (q k : ℕ) → eq_by_cmp nat_cmp q k ≡ nat_eq q k
-tie_is q k = sym (unsigned_ties q k)
-
 insert_has : (s : Told) (k q : ℕ) → set.contains (set.insert s k) q ≡ (nat_eq q k || set.contains s q)
-insert_has s k q = set.contains-insert nat_cmp_total s k q ∙ ap (λ b. b || set.contains s q) (tie_is q k)
+insert_has s k q = set.contains-insert nat_cmp_total s k q ∙ ap (λ b. b || set.contains s q) (nat_tie q k)
 
 remove_has : (s : Told) (k q : ℕ) → set.contains (set.remove s k) q ≡ (not (nat_eq q k) && set.contains s q)
-remove_has s k q = set.contains-remove nat_cmp_total s k q ∙ ap (λ b. not b && set.contains s q) (tie_is q k)
+remove_has s k q = set.contains-remove nat_cmp_total s k q ∙ ap (λ b. not b && set.contains s q) (nat_tie q k)
 
 same_told : (s t : Told) → ((q : ℕ) → set.contains s q ≡ set.contains t q) → s ≡ t
 same_told = set.same_set nat_cmp_total set.nat_cmp-IsAntisymmetric
@@ -41,7 +40,7 @@ subsets_within (suc n) s at k there =
     ⊎_elim
     (λ early. let bounds = subsets_within n s early k there in (bounds.0, omega (arith, bounds.1)))
     (λ late.
-    let from = contained_map (λ t. set.insert t (suc n)) (subsets n) s late in
+    let from = contains-map (λ t. set.insert t (suc n)) (subsets n) s late in
     let has : (nat_eq k (suc n) || set.contains from.0 k) ≡ true = sym (insert_has from.0 (suc n) k) ∙ ap (λ t. set.contains t k) from.2 ∙ there in
     ⊎_elim (λ is. let same = eqb-true k (suc n) is in (omega (arith, same), omega (arith, same)))
     (λ old. let bounds = subsets_within n from.0 from.1 k old in (bounds.0, omega (arith, bounds.1))) (or_cases (nat_eq k (suc n)) (set.contains from.0 k) has))
@@ -60,7 +59,7 @@ subsets_all (suc n) s within =
     let found = subsets_all n less less_within in
     ⊎_elim
     (λ there. let whole : set.insert less (suc n) ≡ s = same_told (set.insert less (suc n)) s (λ q. insert_has less (suc n) q ∙ ap (λ b. nat_eq q (suc n) || b) (remove_has s (suc n) q) ∙ back (nat_eq q (suc n)) (set.contains s q) (λ e. ap (set.contains s) (eqb-true q (suc n) e) ∙ there)) in
-    subst (Contains (subsets (suc n))) whole (Contains-append_right (subsets n) (map (λ t. set.insert t (suc n)) (subsets n)) (set.insert less (suc n)) (map_contains (λ t. set.insert t (suc n)) (subsets n) less found)))
+    subst (Contains (subsets (suc n))) whole (Contains-append_right (subsets n) (map (λ t. set.insert t (suc n)) (subsets n)) (set.insert less (suc n)) (map-contains (λ t. set.insert t (suc n)) (subsets n) less found)))
     (λ away. let whole : less ≡ s = same_told less s (λ q. remove_has s (suc n) q ∙ stays (nat_eq q (suc n)) (set.contains s q) (λ e. ap (set.contains s) (eqb-true q (suc n) e) ∙ away)) in
     subst (Contains (subsets (suc n))) whole (Contains-append_left (subsets n) (map (λ t. set.insert t (suc n)) (subsets n)) less found))
     (cases_Bool (set.contains s (suc n)))
@@ -82,9 +81,6 @@ pub cons_cases : {X : Type 0} (x : X) (xs : List X) (y : X) → Contains (x ∷ 
 cons_cases x xs y (zero, lt, is) = inl (sym is)
 cons_cases x xs y (suc k, lt, is) = inr (k, omega arith, is)
 
-pub cons_later : {X : Type 0} (x : X) (xs : List X) (y : X) → Contains xs y → Contains (x ∷ xs) y
-cons_later x xs y at = (suc at.0, omega (arith, at.1), at.2)
-
 module _ (weights : List ℕ) (P : Told → Type 0) where
   -- the set has the property, and is before each other listed set that has it
   record IsLeader (xs : List Told) (first : Told) : Type 0 where
@@ -103,7 +99,7 @@ module _ (weights : List ℕ) (P : Told → Type 0) where
 
   led_by_old : (x f : Told) (xs : List Told) → IsLeader xs f → (P x → (x ≡ f) ⊎ (is_before weights f x ≡ true)) → IsLeader (x ∷ xs) f
   led_by_old x f xs rest after = record {
-    listed = cons_later x xs f rest.listed;
+    listed = contains_later x xs f rest.listed;
     has = rest.has;
     leads = λ s at p. ⊎_elim
         (λ is. ⊎_elim (λ same. inl (is ∙ same)) (λ before. inr (subst (λ t. is_before weights f t ≡ true) (sym is) before)) (after (subst P is p)))
@@ -116,7 +112,7 @@ module _ (weights : List ℕ) (P : Told → Type 0) where
     first_listed : (xs : List Told) → ((s : Told) → Contains xs s → Within (length weights) s) → ((first : Told) × IsLeader xs first) ⊎ ((s : Told) → Contains xs s → ¬ P s)
     first_listed [] within = inr (λ s at p. absurd (omega (arith, at.1)))
     first_listed (x ∷ xs) within =
-        let rest_within : (s : Told) → Contains xs s → Within (length weights) s = λ s at. within s (cons_later x xs s at) in
+        let rest_within : (s : Told) → Contains xs s → Within (length weights) s = λ s at. within s (contains_later x xs s at) in
         let inside = within x (0, omega arith, refl) in
         ⊎_elim
         (λ has. ⊎_elim
@@ -151,12 +147,12 @@ module _ (d : ℕ) (passes : Told → Bool) (P : Told → Type 0) (known : (s : 
       → ((s : Told) → Contains xs s → passes s ≡ true → P s) ⊎ ((s : Told) × Contains xs s × (passes s ≡ true) × ¬ P s)
   each_listed [] within = inl (λ s at. absurd (omega (arith, at.1)))
   each_listed (x ∷ xs) within =
-      let rest = each_listed xs (λ s at. within s (cons_later x xs s at)) in
+      let rest = each_listed xs (λ s at. within s (contains_later x xs s at)) in
       let here : Contains (x ∷ xs) x = (0, omega arith, refl) in
       let with_rest : (passes x ≡ true → P x) → ((s : Told) → Contains (x ∷ xs) s → passes s ≡ true → P s) ⊎ ((s : Told) × Contains (x ∷ xs) s × (passes s ≡ true) × ¬ P s) =
       λ ok. ⊎_elim
       (λ each. inl (λ s at e. ⊎_elim (λ is. subst P (sym is) (ok (ap passes (sym is) ∙ e))) (λ in_rest. each s in_rest e) (cons_cases x xs s at)))
-      (λ one. inr (one.0, cons_later x xs one.0 one.1, one.2, one.3)) rest in
+      (λ one. inr (one.0, contains_later x xs one.0 one.1, one.2, one.3)) rest in
       ⊎_elim
       (λ tested. ⊎_elim (λ has. with_rest (λ _. has)) (λ lacks. inr (x, here, tested, lacks)) (known x (within x here)))
       (λ untested. with_rest (λ e. absurd (true≢false (sym e ∙ untested))))

@@ -38,12 +38,6 @@ slice_get_none [] n lt is = omega arith
 slice_get_none (x ∷ xs) zero lt is = cc
 slice_get_none (x ∷ xs) (suc n) lt is = slice_get_none xs n (omega arith) is
 
-pub at_some : {X : Type 0} (o : Option X) (x : X) (P : X → Type 0) → o ≡ Some x → P x → IfSome o P
-at_some o x P is holds = subst (λ p. IfSome p P) (sym is) holds
-
-pub of_some : {X : Type 0} (o : Option X) (x : X) (P : X → Type 0) → o ≡ Some x → IfSome o P → P x
-of_some o x P is holds = subst (λ p. IfSome p P) is holds
-
 module _ {X : Type 0} (p : X → Bool) (xs : List X) (i : ℕ) (x : X) (at : slice_get xs i ≡ Some x) (answer : Bool) where
   pub any_here : list_any p (drop i xs) ≡ answer → p x ≡ true → true ≡ answer
   any_here before hit = sym (ap (list_any p) (drop_item xs i x at) ∙ ap (λ b. b || list_any p (drop (i + 1) xs)) hit) ∙ before

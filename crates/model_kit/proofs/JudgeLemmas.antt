@@ -18,13 +18,7 @@ use Rattle.model_kit.specs.Runs.{State, cost_of, Needs, Applies, Leads, Initial,
 use Rattle.model_kit.specs.Judgement.{IsFirstPrinted, Lacks, IsOpen, StopsAt, Judges}
 use Rattle.model_kit.proofs.Alike.{same_atom-decides}
 use Rattle.model_kit.proofs.RunLemmas.{leads_weaker, leads_constant, leads_both, leads_split, split_same, split_later}
-
--- no text is before itself, nor before one that is before it
-not_both_before : (one two : List ℕ) → slice_cmp nat_cmp one two ≡ Less → slice_cmp nat_cmp two one ≡ Less → ⊥
-not_both_before one two first second =
-    let round : slice_cmp nat_cmp one one ≡ Less = nat_list_cmp_total.trans one two one first second in
-    let tied : slice_cmp nat_cmp one one ≡ Equal = tied_itself nat_list_cmp_total one in
-    cc
+use Rattle.mre_base.proofs.OneList.{less_one_way}
 
 -- one atom is printed first
 pub first_printed_once : (words : Vocabulary) (P : GroundAtom → Type 0) (a b : GroundAtom) → IsFirstPrinted words P a → IsFirstPrinted words P b → a ≡ b
@@ -32,7 +26,7 @@ first_printed_once words P a b one two =
     ⊎_elim (λ same. (same_atom-decides a b).0 same)
     (λ other.
     let apart : a ≢ b = λ is. true≢false (sym ((same_atom-decides a b).1 is) ∙ other) in
-    absurd (not_both_before (atom_form words a) (atom_form words b) (one.first b two.has (λ is. apart (sym is))) (two.first a one.has apart)))
+    absurd (less_one_way (atom_form words a) (atom_form words b) (one.first b two.has (λ is. apart (sym is))) (two.first a one.has apart)))
     (cases_Bool (same_atom a b))
 
 module _ (model : Meaning) (plan : List GroundAction) where

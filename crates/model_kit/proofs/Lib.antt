@@ -28,3 +28,5 @@ pub mod ModelFacts
 pub mod TypeLemmas
 pub mod FormLemmas
 pub mod NumberLemmas
+pub mod OneDifferences
+pub mod SameParts

@@ -14,7 +14,7 @@ use Rattle.model_kit.specs.Vocabulary.{is_object_of, IsGroundAction}
 use Rattle.model_kit.proofs.Fits.{signature_listed, object_listed, each_fits}
 use Rattle.model_kit.proofs.TypeLemmas.{entry_passes}
 use Rattle.model_kit.proofs.ActionLemmas.{fit_count}
-use Rattle.model_kit.proofs.StepLemmas.{map_contains}
+use Rattle.mre_base.proofs.Listed.{map-contains}
 
 pub range_contains : (n k : ℕ) → k < n → Contains (range_with_len 0 n) k
 range_contains n k lt =
@@ -35,7 +35,7 @@ pub tuples_all : {X : Type 0} (things : List X) (xs : List X) → ((k : ℕ) (d 
 tuples_all things [] each = (0, omega arith, refl)
 tuples_all things (x ∷ xs) each =
     flat_contains (λ y. map (λ ys. y ∷ ys) (tuples things (length xs))) things x (x ∷ xs) (each 0 x (omega arith))
-    (map_contains (λ ys. x ∷ ys) (tuples things (length xs)) xs (tuples_all things xs (λ k d lt. each (suc k) d (omega arith))))
+    (map-contains (λ ys. x ∷ ys) (tuples things (length xs)) xs (tuples_all things xs (λ k d lt. each (suc k) d (omega arith))))
 
 -- ---- lists of flags
 
@@ -85,4 +85,4 @@ ground_listed words action fits =
     let tuple = subst (λ n. Contains (tuples (range_with_len 0 (length words.objects)) n) action.objects) count (tuples_all (range_with_len 0 (length words.objects)) action.objects each) in
     flat_contains (λ n. map (λ objects. let made : GroundAction = record { schema = n; objects = objects } in made) (tuples (range_with_len 0 (length words.objects)) (length (params_of words n))))
     (range_with_len 0 (length words.actions)) action.schema action (range_contains (length words.actions) action.schema number)
-    (map_contains (λ objects. let made : GroundAction = record { schema = action.schema; objects = objects } in made) (tuples (range_with_len 0 (length words.objects)) (length (params_of words action.schema))) action.objects tuple)
+    (map-contains (λ objects. let made : GroundAction = record { schema = action.schema; objects = objects } in made) (tuples (range_with_len 0 (length words.objects)) (length (params_of words action.schema))) action.objects tuple)

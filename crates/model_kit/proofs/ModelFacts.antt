@@ -15,9 +15,10 @@ use Rattle.model_kit.specs.Names.{are_entries}
 use Rattle.model_kit.specs.Same.{same_numbers, same_atom, same_schema_atom}
 use Rattle.model_kit.specs.Vocabulary.{is_ground_atom, is_schema_atom}
 use Rattle.model_kit.specs.Features.{are_ground_atoms, are_schema_atoms, is_cost, is_schema, is_value, same_key, is_action, is_model}
-use Rattle.model_kit.proofs.Ands.{and4, and5, all4, all5}
+use Rattle.model_kit.proofs.Ands.{and4, and5, all5}
 use Rattle.model_kit.proofs.Alike.{same_numbers-decides, same_atom-decides, same_schema_atom-decides}
 use Rattle.model_kit.proofs.Distinct.{ListFacts, list_facts, list_sound}
+use Rattle.mre_base.proofs.Tests.{all_four}
 
 -- what a schema keeps, where its action has these parameters
 pub record SchemaFacts (words : Vocabulary) (params : List ℕ) (schema : Schema) : Type 0 where
@@ -38,7 +39,7 @@ module _ (words : Vocabulary) where
 
   pub schema_sound : (schema : Schema) (action : Signature) → SchemaFacts words action.params schema → is_schema words schema action ≡ true
   schema_sound schema action facts =
-      all4 (are_schema_atoms words action.params schema.pre) (are_schema_atoms words action.params schema.add) (are_schema_atoms words action.params schema.del) (is_cost words action.params schema.cost)
+      all_four (are_schema_atoms words action.params schema.pre) (are_schema_atoms words action.params schema.add) (are_schema_atoms words action.params schema.del) (is_cost words action.params schema.cost)
       (list_sound (is_schema_atom words action.params) same_schema_atom (λ f g. f ≡ g) same_schema_atom-decides schema.pre facts.pre_kept)
       (list_sound (is_schema_atom words action.params) same_schema_atom (λ f g. f ≡ g) same_schema_atom-decides schema.add facts.add_kept)
       (list_sound (is_schema_atom words action.params) same_schema_atom (λ f g. f ≡ g) same_schema_atom-decides schema.del facts.del_kept)

@@ -8,6 +8,7 @@ use Rattle.std.specs.FinSet as set
 use Rattle.std.proofs.lemmas.Bool.{true≢false, cases_Bool, cases_order, or_left, or_right, and_from, and_right, eqb-true, eq-eqb}
 use Rattle.std.proofs.lemmas.Bool.Decides.{nat_tests}
 use Rattle.mre_base.specs.Before.{numbers, weight, is_earlier_list, is_smaller, is_lighter, is_before}
+use Rattle.mre_base.proofs.ListOrder.{earlier_trans}
 
 -- ---- an order by a number and then by a test
 
@@ -64,15 +65,6 @@ earlier_total (x ∷ xs) (y ∷ ys) =
     (λ same. ⊎_elim (λ rest. inl (λ i. same i ∷ rest i)) (λ either. inr (⊎_elim (λ e. inl (lex_tie x y (is_earlier_list xs ys) same e)) (λ e. inr (lex_tie y x (is_earlier_list ys xs) (sym same) e)) either)) (earlier_total xs ys))
     (λ apart. inr (⊎_elim (λ lt. inl (lex_first x y (is_earlier_list xs ys) lt)) (λ lt. inr (lex_first y x (is_earlier_list ys xs) lt)) apart))
     (cases_order x y)
-
-earlier_trans : (xs ys zs : List ℕ) → is_earlier_list xs ys ≡ true → is_earlier_list ys zs ≡ true → is_earlier_list xs zs ≡ true
-earlier_trans [] [] zs first second = absurd (true≢false (sym first))
-earlier_trans [] (y ∷ ys) [] first second = absurd (true≢false (sym second))
-earlier_trans [] (y ∷ ys) (z ∷ zs) first second = refl
-earlier_trans (x ∷ xs) [] zs first second = absurd (true≢false (sym first))
-earlier_trans (x ∷ xs) (y ∷ ys) [] first second = absurd (true≢false (sym second))
-earlier_trans (x ∷ xs) (y ∷ ys) (z ∷ zs) first second =
-    lex_trans x y z (is_earlier_list xs ys) (is_earlier_list ys zs) (is_earlier_list xs zs) (earlier_trans xs ys zs) first second
 
 module _ (weights : List ℕ) where
   lighter_one_way : (xs ys : List ℕ) → is_lighter weights xs ys ≡ true → is_lighter weights ys xs ≡ true → ⊥

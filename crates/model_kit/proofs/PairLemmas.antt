@@ -10,11 +10,7 @@ use Rattle.model_kit.specs.Types.{is_of_type}
 use Rattle.model_kit.specs.Vocabulary.{is_object_of, IsGroundAction}
 use Rattle.model_kit.specs.Pairs.{IsJoint}
 use Rattle.model_kit.proofs.TypeLemmas.{entry_passes, entry_from}
-
-slice_get-append : {X : Type 0} (xs ys : List X) (n : ℕ) (x : X) → slice_get xs n ≡ Some x → slice_get (xs ++ ys) n ≡ Some x
-slice_get-append [] ys n x at = absurd (cc)
-slice_get-append (z ∷ xs) ys zero x at = at
-slice_get-append (z ∷ xs) ys (suc n) x at = slice_get-append xs ys n x at
+use Rattle.mre_base.proofs.Listed.{slice_get-append}
 
 module _ (planner user words : Vocabulary) (joint : IsJoint planner user words) where
   -- an object is of the same types

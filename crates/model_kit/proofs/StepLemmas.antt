@@ -19,6 +19,7 @@ use Rattle.model_kit.specs.Runs.{instance, Needs, Adds, Deletes, After}
 use Rattle.model_kit.specs.Judgement.{IsFirstPrinted, Lacks}
 use Rattle.model_kit.specs.Judging.{has, StateOf, IsMissing, Changes}
 use Rattle.model_kit.proofs.Alike.{same_atom-decides, same_schema_atom-decides}
+use Rattle.mre_base.proofs.Listed.{map-contains, contains-map}
 
 -- a test of equality finds what is listed
 module _ {X : Type 0} (same : X → X → Bool) (decides : (a b : X) → Decides (same a b) (a ≡ b)) where
@@ -33,17 +34,6 @@ module _ {X : Type 0} (same : X → X → Bool) (decides : (a b : X) → Decides
   any_from_listed x [] at = absurd (omega (arith, at.1))
   any_from_listed x (y ∷ ys) (zero, lt, is) = or_left (same x y) (list_any (same x) ys) ((decides x y).1 (sym is))
   any_from_listed x (y ∷ ys) (suc k, lt, is) = or_right (same x y) (list_any (same x) ys) (any_from_listed x ys (k, omega arith, is))
-
--- what a mapped list contains
-pub map_contains : {X Y : Type 0} (f : X → Y) (xs : List X) (x : X) → Contains xs x → Contains (map f xs) (f x)
-map_contains f [] x at = absurd (omega (arith, at.1))
-map_contains f (y ∷ ys) x (zero, lt, is) = (zero, omega arith, ap f is)
-map_contains f (y ∷ ys) x (suc k, lt, is) = let at = map_contains f ys x (k, omega arith, is) in (suc at.0, omega (arith, at.1), at.2)
-
-pub contained_map : {X Y : Type 0} (f : X → Y) (xs : List X) (y : Y) → Contains (map f xs) y → (x : X) × Contains xs x × (f x ≡ y)
-contained_map f [] y at = absurd (omega (arith, at.1))
-contained_map f (x ∷ xs) y (zero, lt, is) = (x, (zero, omega arith, refl), is)
-contained_map f (x ∷ xs) y (suc k, lt, is) = let at = contained_map f xs y (k, omega arith, is) in (at.0, (suc at.1.0, omega (arith, at.1.1), at.1.2), at.2)
 
 module _ (model : Model) (action : GroundAction) (schema : Schema) (at : slice_get model.schemas action.schema ≡ Some schema) where
   -- a list of the schema, as the places of the model have it
@@ -60,10 +50,10 @@ module _ (model : Model) (action : GroundAction) (schema : Schema) (at : slice_g
   -- what the action needs, adds or deletes are the instances of the list
   from_list : (part : Schema → List SchemaAtom) (atom : GroundAtom) → Contains (instances (part schema)) atom → (f : SchemaAtom) × (schema_has part model action.schema f ≡ true) × (instance action.objects f ≡ atom)
   from_list part atom listed =
-      let f = contained_map (instance action.objects) (part schema) atom listed in (f.0, (schema_list part f.0).1 f.1, f.2)
+      let f = contains-map (instance action.objects) (part schema) atom listed in (f.0, (schema_list part f.0).1 f.1, f.2)
 
   to_list : (part : Schema → List SchemaAtom) (atom : GroundAtom) → (f : SchemaAtom) × (schema_has part model action.schema f ≡ true) × (instance action.objects f ≡ atom) → Contains (instances (part schema)) atom
-  to_list part atom (f, on, is) = subst (Contains (instances (part schema))) is (map_contains (instance action.objects) (part schema) f ((schema_list part f).0 on))
+  to_list part atom (f, on, is) = subst (Contains (instances (part schema))) is (map-contains (instance action.objects) (part schema) f ((schema_list part f).0 on))
 
   pub needs_from : (atom : GroundAtom) → Contains (instances schema.pre) atom → Needs (meaning model) action atom
   needs_from = from_list (λ s. s.pre)

@@ -6,7 +6,8 @@ use Rattle.std.specs.Bool.{Decides}
 use Rattle.std.specs.List.{list_any}
 use Rattle.std.proofs.lemmas.Bool.{true≢false, cases_Bool, cases_lt, not_from_true, not_from_false}
 use Rattle.model_kit.proofs.StepLemmas.{listed_from_any, any_from_listed}
-use Rattle.model_kit.proofs.FirstLemmas.{cons_cases, cons_later}
+use Rattle.model_kit.proofs.FirstLemmas.{cons_cases}
+use Rattle.mre_base.proofs.Loops.{contains_later}
 
 module _ {S A : Type 0} (same : S → S → Bool) (decides : (s t : S) → Decides (same s t) (s ≡ t)) (step : S → A → Option (S × ℕ)) (goal : S → Bool) where
   -- a way from a state over states that may be entered to a goal, which costs less than the bound
@@ -32,7 +33,7 @@ module _ {S A : Type 0} (same : S → S → Bool) (decides : (s t : S) → Decid
     where
       kept : Contains (but t states) s → (not (same t x) ≡ true) ⊎ (not (same t x) ≡ false) → Contains (cond (not (same t x)) (x ∷ but t states) (but t states)) s
       kept deeper cases =
-          ⊎_elim (λ e. subst (λ b. Contains (cond b (x ∷ but t states) (but t states)) s) (sym e) (cons_later x (but t states) s deeper))
+          ⊎_elim (λ e. subst (λ b. Contains (cond b (x ∷ but t states) (but t states)) s) (sym e) (contains_later x (but t states) s deeper))
           (λ e. subst (λ b. Contains (cond b (x ∷ but t states) (but t states)) s) (sym e) deeper) cases
 
   but_of : (t : S) (states : List S) (s : S) → Contains (but t states) s → Contains states s
@@ -42,8 +43,8 @@ module _ {S A : Type 0} (same : S → S → Bool) (decides : (s t : S) → Decid
       by : (Contains (but t states) s → Contains states s) → (not (same t x) ≡ true) ⊎ (not (same t x) ≡ false) → Contains (cond (not (same t x)) (x ∷ but t states) (but t states)) s → Contains (x ∷ states) s
       by deeper cases there =
           ⊎_elim
-          (λ e. ⊎_elim (λ is. (0, omega arith, sym is)) (λ later. cons_later x states s (deeper later)) (cons_cases x (but t states) s (subst (λ b. Contains (cond b (x ∷ but t states) (but t states)) s) e there)))
-          (λ e. cons_later x states s (deeper (subst (λ b. Contains (cond b (x ∷ but t states) (but t states)) s) e there)))
+          (λ e. ⊎_elim (λ is. (0, omega arith, sym is)) (λ later. contains_later x states s (deeper later)) (cons_cases x (but t states) s (subst (λ b. Contains (cond b (x ∷ but t states) (but t states)) s) e there)))
+          (λ e. contains_later x states s (deeper (subst (λ b. Contains (cond b (x ∷ but t states) (but t states)) s) e there)))
           cases
 
   but_le : (t : S) (states : List S) → length (but t states) ≤ length states

@@ -22,6 +22,7 @@ use Rattle.named_tables.specs.Reachable.{Thing, Atom, Action, Reachable, Initial
 use Rattle.named_tables.specs.Numbered.{ListsReachable}
 use Rattle.named_tables.specs.Tables.{number_in, IsCaseOf, AreCases, IsActionOf, IsTableOf}
 use Rattle.named_tables.specs.Example.{words, p, added, walk, models, case_when, walk_cases, ExampleLaw}
+use Rattle.mre_base.proofs.Options.{same_some}
 
 -- ---- lists of one item
 one_item : {X : Type 0} (x y : X) → Contains (x ∷ []) y → x ≡ y
@@ -131,9 +132,6 @@ walk_is = record {
 none_is : {X : Type 0} (x : X) → None ≡ Some x → ⊥
 none_is x e = cc
 
-some_is : {X : Type 0} (x y : X) → Some x ≡ Some y → x ≡ y
-some_is x y e = ap (λ o. unwrap_or o x) e
-
 is_table : (table : CaseTable) → table.atoms ≡ 1 → table.start ≡ case_when (IfLeft 1) ∷ [] → table.goal ≡ case_when Always ∷ [] → table.actions ≡ walk_cases ∷ [] → IsTableOf models (p ∷ []) (walk ∷ []) table
 is_table table atoms start goal actions = record {
   counted = atoms;
@@ -145,8 +143,8 @@ is_table table atoms start goal actions = record {
   where
     each : (k : ℕ) (action : GroundAction) (cases : CaseAction) → slice_get (walk ∷ []) k ≡ Some action → slice_get table.actions k ≡ Some cases → IsActionOf models (number_in (p ∷ [])) action cases
     each zero action cases at cases_at =
-        let one : walk ≡ action = some_is walk action at in
-        let two : walk_cases ≡ cases = some_is walk_cases cases (ap (λ list. slice_get list 0) (sym actions) ∙ cases_at) in
+        let one : walk ≡ action = same_some walk action at in
+        let two : walk_cases ≡ cases = same_some walk_cases cases (ap (λ list. slice_get list 0) (sym actions) ∙ cases_at) in
         subst (λ (pair : GroundAction × CaseAction). IsActionOf models (number_in (p ∷ [])) pair.0 pair.1) (λ i. (one i, two i)) walk_is
     each (suc k) action cases at cases_at = absurd (none_is action at)
 

@@ -19,7 +19,8 @@ use Rattle.named_tables.specs.Tables.{number_in, IsTableOf}
 use Rattle.named_tables.specs.Laws.{RunLaw}
 use Rattle.named_tables.proofs.ReachLemmas.{reached_fits, valid_reached}
 use Rattle.named_tables.proofs.StepLemmas.{IsModelIn, valid_numbers, cost_numbers, plan_of}
-use Rattle.named_tables.proofs.TableLemmas.{listed_at, model_in}
+use Rattle.named_tables.proofs.TableLemmas.{model_in}
+use Rattle.mre_base.proofs.Listed.{item_contained}
 
 module _ (models : Models) (atoms : List GroundAtom) (actions : List GroundAction) (table : CaseTable) (lists : ListsReachable models atoms actions) (is : IsTableOf models atoms actions table) (told : Told) where
   place_of : (action : GroundAction) → Reachable models (Action action) → (k : ℕ) × (slice_get actions k ≡ Some action)
@@ -37,7 +38,7 @@ module _ (models : Models) (atoms : List GroundAtom) (actions : List GroundActio
   listed_fit [] (action ∷ plan) are = absurd are
   listed_fit (k ∷ list) [] are = absurd are
   listed_fit (k ∷ list) (action ∷ plan) (at, rest) =
-      All-cons (IsGroundAction models.words) action plan (reached_fits models action ((lists.each_action action).0 (listed_at actions k action at))) (listed_fit list plan rest)
+      All-cons (IsGroundAction models.words) action plan (reached_fits models action ((lists.each_action action).0 (item_contained actions k action at))) (listed_fit list plan rest)
 
   in_numbers : (plan : List GroundAction) → All (IsGroundAction models.words) plan → named.IsValid (after_told models told) plan → (list : List ℕ) × AreNumbersOf actions list plan
   in_numbers plan fits valid = numbers_of plan (valid_reached models told plan fits valid)

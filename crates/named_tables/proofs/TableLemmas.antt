@@ -23,9 +23,8 @@ use Rattle.named_tables.proofs.CaseLemmas.{AreNumbered, either_has, case_numbers
 use Rattle.named_tables.proofs.NumberLemmas.{number_most, number_listed, number_there}
 use Rattle.named_tables.proofs.PriceLemmas.{cost_is}
 use Rattle.named_tables.proofs.StepLemmas.{IsActionIn, IsModelIn}
-
-some_is : {X : Type 0} (x y : X) → Some x ≡ Some y → x ≡ y
-some_is x y e = ap (λ o. unwrap_or o x) e
+use Rattle.mre_base.proofs.Listed.{item_contained}
+use Rattle.mre_base.proofs.Options.{same_some}
 
 -- the atoms of facts are the facts
 fact_numbers : (number : GroundAtom → ℕ) (IsSo : GroundAtom → Type 0) (numbers : Numbers) → AreNumbered number (λ a. (f : GroundAtom) × IsSo f × (f ≡ a)) numbers → AreNumbered number IsSo numbers
@@ -33,9 +32,6 @@ fact_numbers number IsSo numbers are i = (
   λ there. let (a, (f, so, is), at) = (are i).0 there in (a, subst IsSo is so, at),
   λ (a, so, at). (are i).1 (a, (a, so, refl), at),
 )
-
-pub listed_at : {X : Type 0} (xs : List X) (k : ℕ) (x : X) → slice_get xs k ≡ Some x → Contains xs x
-listed_at xs k x at = (k, slice_get_within xs k x at, get_or_from_slice_get xs k x x at)
 
 module _ (models : Models) (atoms : List GroundAtom) (actions : List GroundAction) (table : CaseTable) (lists : ListsReachable models atoms actions) (is : IsTableOf models atoms actions table) (told : Told) where
   reached_below : (atom : GroundAtom) → Reachable models (Atom atom) → number_in atoms atom < length atoms
@@ -54,7 +50,7 @@ module _ (models : Models) (atoms : List GroundAtom) (actions : List GroundActio
         del = case_numbers models told (number_in atoms) SchemaAtom (Del action.schema) (instance action.objects) cases.del each.del;
         cost = cost_is models told action cases.known cases.cost each.known each.cost;
         listed = λ atom (f, on, made). reached_below atom (subst (λ a. Reachable models (Atom a)) made
-            (Added action f ((lists.each_action action).0 (listed_at actions k action at)) (either_has models told (Add action.schema f) on)));
+            (Added action f ((lists.each_action action).0 (item_contained actions k action at)) (either_has models told (Add action.schema f) on)));
       }
 
   none_is : (action : GroundAction) → None ≡ Some action → ⊥
@@ -73,7 +69,7 @@ module _ (models : Models) (atoms : List GroundAtom) (actions : List GroundActio
   pub model_in : IsModelIn (length atoms) (number_in atoms) actions (after_told models told) (member table told)
   model_in = record {
     most = number_most atoms;
-    one = λ a b lt same. some_is a b (sym (number_there atoms a lt) ∙ ap (slice_get atoms) same ∙ number_there atoms b (subst (λ k. k < length atoms) same lt));
+    one = λ a b lt same. same_some a b (sym (number_there atoms a lt) ∙ ap (slice_get atoms) same ∙ number_there atoms b (subst (λ k. k < length atoms) same lt));
     start = fact_numbers (number_in atoms) (λ a. Has (after_told models told) (Init a)) _ (case_numbers models told (number_in atoms) GroundAtom Init (λ a. a) table.start is.start);
     goal = fact_numbers (number_in atoms) (λ a. Has (after_told models told) (Goal a)) _ (case_numbers models told (number_in atoms) GroundAtom Goal (λ a. a) table.goal is.goal);
     each = λ k action at.

@@ -17,13 +17,14 @@ use Rattle.model_kit.specs.Runs.{Has, is_on, worth}
 use Rattle.model_kit.proofs.Alike.{same_atom-decides, same_schema_atom-decides, same_numbers-decides}
 use Rattle.model_kit.proofs.PlaceLemmas.{listed_place, unlisted_place}
 use Rattle.model_kit.proofs.NumberLemmas.{number_some}
-use Rattle.model_kit.proofs.StepLemmas.{listed_from_any, any_from_listed, contained_map}
+use Rattle.model_kit.proofs.StepLemmas.{listed_from_any, any_from_listed}
 use Rattle.mre_base.proofs.Loops.{contains_cases, contains_here, contains_later}
 use Rattle.feature_diff.specs.declared.difference.Difference.{Difference}
 use Rattle.feature_diff.specs.declared.difference.Difference.TheVariants.{Init, Goal, Knows, Pre, Add, Del, Cost, Value}
 use Rattle.feature_diff.specs.Differing.{place_of, places_of, planner_content, user_content, Says, AreDifferencesOf}
 use Rattle.pair_rules.specs.Made.{is_pre, user_add, user_init, user_cost, user_key, key_of, needs_of, adds_of, costs_of}
 use Rattle.pair_rules.proofs.PartLemmas.{filter_has, filter_keeps, picks_have, picks_keep}
+use Rattle.mre_base.proofs.Listed.{contains-map}
 
 -- a feature that is on
 on_is : (content : Content) (b : Bool) → content ≡ Feature b → is_on content ≡ b
@@ -178,7 +179,7 @@ module _ (planner user : Model) (differences : List Difference) (all : AreDiffer
   -- a place is that of a difference, or the models agree there
   pub differs_or_same : (p : Place) → ((d : Difference) × Contains differences d × (place_of d ≡ p)) ⊎ (meaning planner p ≡ meaning user p)
   differs_or_same p = elim (cases_Bool (list_any (λ q. same_place q p) (places_of differences))) [
-    | inl listed ↦ inl (contained_map place_of differences p (listed_place p (places_of differences) listed))
+    | inl listed ↦ inl (contains-map place_of differences p (listed_place p (places_of differences) listed))
     | inr unlisted ↦ inr (all.all.agree p (unlisted_place p (places_of differences) unlisted))
   ]
 

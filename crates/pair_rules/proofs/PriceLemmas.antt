@@ -8,7 +8,6 @@ use Rattle.model_kit.specs.declared.model.CostExpr.TheVariants.{Number, Call}
 use Rattle.model_kit.specs.declared.action.GroundAction.{GroundAction}
 use Rattle.model_kit.specs.Places.{Place, Knows, Cost, Value, Price, meaning}
 use Rattle.model_kit.specs.Runs.{is_on, worth, object_of, price_of}
-use Rattle.model_kit.proofs.StepLemmas.{map_contains}
 use Rattle.case_kit.specs.declared.cases.When.{When}
 use Rattle.case_kit.specs.declared.cases.When.TheVariants.{Always, IfTold, IfLeft}
 use Rattle.case_kit.specs.declared.costs.CaseValue.{CaseValue}
@@ -29,10 +28,8 @@ use Rattle.pair_rules.specs.Made.{is_known}
 use Rattle.pair_rules.specs.Ruled.{models_of}
 use Rattle.pair_rules.proofs.FeatureLemmas.{differs_or_same}
 use Rattle.model_kit.proofs.NumberLemmas.{number_listed, number_one}
-
-not_so : (b : Bool) → (b ≡ true → ⊥) → not b ≡ true
-not_so true no_way = absurd (no_way refl)
-not_so false no_way = refl
+use Rattle.mre_base.proofs.Listed.{map-contains}
+use Rattle.mre_base.proofs.Tests.{not_so}
 
 beside_is : (cost : CaseCost) (known : When) → ((k : ℕ) → speaks_of known k ≡ true → stands_in_cost cost k ≡ true → ⊥) → is_beside cost known ≡ true
 beside_is cost Always apart = refl
@@ -45,7 +42,7 @@ module _ (planner user : Model) (differences : List Difference) (all : AreDiffer
   models = models_of planner user differences
 
   place_number : (d : Difference) (p : Place) → Contains differences d → place_of d ≡ p → (k : ℕ) × IsNumber models p k
-  place_number d p among here = number_listed 1 (places_of differences) p (subst (Contains (places_of differences)) here (map_contains place_of differences d among))
+  place_number d p among here = number_listed 1 (places_of differences) p (subst (Contains (places_of differences)) here (map-contains place_of differences d among))
 
   record ValueFor (objects : List ℕ) (expr : CostExpr) : Type 0 where
     value : CaseValue

@@ -24,16 +24,8 @@ use Rattle.task_kit.proofs.PlaceLemmas.{push_cases}
 use Rattle.joint_models.proofs.Mapped.{range_more}
 use Rattle.pair_rules.proofs.PartLemmas.{filter_has, filter_keeps}
 use Rattle.pair_rules.specs.Fitting.{IsUsed, AreAbove, AreTypesOf, AreObjectsOf, AreUsed, AreFitting, has_type}
-
--- two tests that pass alike
-same_tests : (a b : Bool) → (a ≡ true → b ≡ true) → (b ≡ true → a ≡ true) → a ≡ b
-same_tests true b to back = sym (to refl)
-same_tests false true to back = back refl
-same_tests false false to back = refl
-
--- there is only one item at a place
-pub same_item : {X : Type 0} (o : Option X) (x y : X) → o ≡ Some x → o ≡ Some y → x ≡ y
-same_item o x y is_x is_y = cc
+use Rattle.mre_base.proofs.PlaceWords.{same_answer}
+use Rattle.mre_base.proofs.Options.{one_item}
 
 -- ---- one more number in a set
 module _ (old new : BitSet) (number : ℕ) (put : new ≡ record old { members = set.insert old.members number }) where
@@ -99,7 +91,7 @@ module _ (types : List (List ℕ × ℕ)) (kind : ℕ) where
     pub above_all : (steps : ℕ) (bits : BitSet) → AreAbove types kind steps bits → steps ≤ length types + 1 → (length types + 1 ≤ steps) ⊎ ((last : ℕ) × (steps ≡ last + 1) × (ancestor types last kind ≡ 0))
         → (above : ℕ) → set.contains bits.members above ≡ is_of_type types kind above
     above_all steps bits set_is most ends above =
-        same_tests (set.contains bits.members above) (is_of_type types kind above)
+        same_answer (set.contains bits.members above) (is_of_type types kind above)
         (λ has. let found = set_is.only above has in from_steps_up types kind above found.0 (let low = found.1 in omega (arith, low, most)) found.2)
         (λ is. let (n, few, at) = steps_up types kind above is in subst (λ i. set.contains bits.members i ≡ true) at (reached n few (cases_order n steps) ends))
       where
@@ -169,7 +161,7 @@ module _ (words : Vocabulary) where
   }
     where
       cc_same : (number : ℕ) (other : Signature) → number ≡ count → slice_get words.actions number ≡ Some other → other ≡ action
-      cc_same number other same other_at = same_item (slice_get words.actions number) other action other_at (ap (slice_get words.actions) same ∙ at)
+      cc_same number other same other_at = one_item (slice_get words.actions number) other action other_at (ap (slice_get words.actions) same ∙ at)
 
   pub fitting_more : (count : ℕ) (old new : List (List ℕ)) (objects : List ℕ) → AreFitting words count old → (IsUsed words count → (object : ℕ) → Contains objects object ↔ (is_object_of words object count ≡ true))
       → new ≡ old ++ objects ∷ [] → AreFitting words (count + 1) new
@@ -224,7 +216,7 @@ object_more sets kind n bits at has is made before =
 pub kind_there : (kinds : List ℕ) (place item : ℕ) (old new : BitSet) → slice_get kinds place ≡ Some item → new ≡ record old { members = set.insert old.members item }
     → ((i kind : ℕ) → i < place → slice_get kinds i ≡ Some kind → set.contains old.members kind ≡ true) → (i kind : ℕ) → i < place + 1 → slice_get kinds i ≡ Some kind → set.contains new.members kind ≡ true
 kind_there kinds place item old new at put before i kind lt here = elim (cases_order i place) [
-  | inl same ↦ subst (λ k. set.contains new.members k ≡ true) (same_item (slice_get kinds i) item kind (ap (slice_get kinds) same ∙ at) here) (put_there old new item put)
+  | inl same ↦ subst (λ k. set.contains new.members k ≡ true) (one_item (slice_get kinds i) item kind (ap (slice_get kinds) same ∙ at) here) (put_there old new item put)
   | inr apart ↦ elim apart [
     | inl below ↦ put_grows old new item put kind (before i kind below here)
     | inr past ↦ absurd (omega (arith, lt, past))

@@ -11,8 +11,6 @@ use Rattle.model_kit.specs.Differences.{number_from}
 use Rattle.model_kit.specs.Places.{Place, Content, Feature, Price, Worth, Nothing, meaning}
 use Rattle.model_kit.specs.Runs.{Has, is_on}
 use Rattle.model_kit.proofs.NumberLemmas.{number_listed, number_at, number_next}
-use Rattle.model_kit.proofs.StepLemmas.{map_contains, contained_map}
-use Rattle.reach_kit.proofs.ListFacts.{contains_item}
 use Rattle.case_kit.specs.declared.cases.When.{When}
 use Rattle.case_kit.specs.declared.cases.When.TheVariants.{IfLeft}
 use Rattle.feature_diff.specs.declared.difference.Difference.{Difference}
@@ -23,6 +21,7 @@ use Rattle.pair_rules.specs.Ruled.{models_of}
 use Rattle.pair_rules.proofs.PartLemmas.{picks_have, picks_keep}
 use Rattle.pair_rules.proofs.FeatureLemmas.{differs_or_same}
 use Rattle.pair_tables.specs.Featured.{planner_when, planner_feature, user_feature, features, AreFeatures, case_of}
+use Rattle.mre_base.proofs.Listed.{item_contained, map-contains, contains-map}
 
 -- a content that is on is a feature
 on_content : (content : Content) → is_on content ≡ true → content ≡ Feature true
@@ -40,13 +39,13 @@ module _ (planner user : Model) (differences : List Difference) (all : AreDiffer
 
   -- where there is a number the models differ, and else they agree
   pub differ_at : (p : Place) (n : ℕ) → number_of p ≡ Some n → meaning planner p ≢ meaning user p
-  differ_at p n is = let (j, far, at) = number_at 1 (places_of differences) p n is in all.all.differ p (contains_item (places_of differences) j p at)
+  differ_at p n is = let (j, far, at) = number_at 1 (places_of differences) p n is in all.all.differ p (item_contained (places_of differences) j p at)
 
   pub agree_at : (p : Place) → number_of p ≡ None → meaning planner p ≡ meaning user p
   agree_at p none = elim (differs_or_same planner user differences all p) [
     | inr same ↦ same
     | inl (d, among, here) ↦
-        let (n, is) = number_listed 1 (places_of differences) p (subst (Contains (places_of differences)) here (map_contains place_of differences d among)) in
+        let (n, is) = number_listed 1 (places_of differences) p (subst (Contains (places_of differences)) here (map-contains place_of differences d among)) in
         let no : None ≡ Some n = sym none ∙ is in
         absurd (cc)
   ]
@@ -69,7 +68,7 @@ module _ (planner user : Model) (differences : List Difference) (all : AreDiffer
 
     own_when : (feature : F × When) → Contains (map (planner_feature at) own) feature → IsWhen models (place feature.0) feature.1
     own_when feature there =
-        let (f, among, is) = contained_map (planner_feature at) own feature there in
+        let (f, among, is) = contains-map (planner_feature at) own feature there in
         subst (λ (x : F × When). IsWhen models (place x.0) x.1) is (planner_when_is (place f) (at f) refl ((own_is f).0 among))
 
     given : (f : F) (o : Option ℕ) (feature : F × When) → option_map (λ n. (f, IfLeft n)) o ≡ Some feature → (n : ℕ) × (o ≡ Some n) × (◌≡◌ {A = F × When} (f, IfLeft n) feature)
@@ -96,7 +95,7 @@ module _ (planner user : Model) (differences : List Difference) (all : AreDiffer
       where
         from_own : (f : F) → Has (meaning planner) (place f) → (when : When) × Contains (features at own other) (f, when)
         from_own f mine =
-            (planner_when (at f), Contains-append_left (map (planner_feature at) own) (filter_map (user_feature at) other) (planner_feature at f) (map_contains (planner_feature at) own f ((own_is f).1 mine)))
+            (planner_when (at f), Contains-append_left (map (planner_feature at) own) (filter_map (user_feature at) other) (planner_feature at f) (map-contains (planner_feature at) own f ((own_is f).1 mine)))
 
         from_other : (f : F) (o : Option ℕ) → at f ≡ o → Has (meaning user) (place f) → (when : When) × Contains (features at own other) (f, when)
         from_other f None none theirs = from_own f (ap is_on (agree_at (place f) none) ∙ theirs)
@@ -111,9 +110,9 @@ pub are_cases : (models : Models) (number : GroundAtom → ℕ) (F : Type 0) (pl
     → AreCases models number F place atom (map (case_of number atom) list)
 are_cases models number F place atom list are = record {
   each = λ case there.
-      let (feature, among, is) = contained_map (case_of number atom) list case there in
+      let (feature, among, is) = contains-map (case_of number atom) list case there in
       (feature.0, (ap (λ c. c.atom) is, subst (IsWhen models (place feature.0)) (ap (λ c. c.when) is) (are.each feature among)));
-  all = λ f has. let (when, among) = are.all f has in (case_of number atom (f, when), map_contains (case_of number atom) list (f, when) among, (refl, are.each (f, when) among));
+  all = λ f has. let (when, among) = are.all f has in (case_of number atom (f, when), map-contains (case_of number atom) list (f, when) among, (refl, are.each (f, when) among));
 }
 
 -- the number of a place, by the place of its difference

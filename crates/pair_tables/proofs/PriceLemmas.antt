@@ -4,7 +4,6 @@ use Rattle.std.specs.Prelude.{slice_get}
 use Rattle.std.specs.Option.{option_map, option_map_or}
 use Rattle.std.proofs.lemmas.Option.{slice_get-map}
 use Rattle.std.proofs.lemmas.List.Elements.{All-contains}
-use Rattle.reach_kit.proofs.ListFacts.{contains_item}
 use Rattle.reach_kit.specs.Relaxed.{IsPlaced}
 use Rattle.model_kit.specs.declared.model.Model.{Model}
 use Rattle.model_kit.specs.declared.model.Schema.{Schema}
@@ -29,10 +28,8 @@ use Rattle.named_tables.specs.Tables.{IsNumber, IsWorth, IsValue, IsCostOf}
 use Rattle.pair_rules.specs.Ruled.{models_of}
 use Rattle.pair_tables.specs.Pricing.{worths_of}
 use Rattle.pair_tables.proofs.FeatureLemmas.{agree_at, number_is}
-
--- one of two equal options that are there
-same_there : {X : Type 0} (o : Option X) (x y : X) → o ≡ Some x → o ≡ Some y → x ≡ y
-same_there o x y is_x is_y = cc
+use Rattle.mre_base.proofs.Listed.{item_contained}
+use Rattle.mre_base.proofs.Options.{one_item}
 
 module _ (planner user : Model) (differences : List Difference) (all : AreDifferencesOf planner user differences) where
   abbrev models : Models
@@ -57,8 +54,8 @@ module _ (planner user : Model) (differences : List Difference) (all : AreDiffer
           let same : at ≡ j = omega (arith, far) in
           let there : slice_get (places_of differences) at ≡ Some (place.Value f xs) = ap (slice_get (places_of differences)) same ∙ stands in
           let mapped : slice_get (places_of differences) at ≡ Some (place_of d) = slice_get-map place_of differences at ∙ ap (option_map place_of) here in
-          worths_are d (at + 1) (All-contains (Says (meaning planner) (meaning user)) differences d all.each (contains_item differences at d here))
-          (same_there (slice_get (places_of differences) at) (place_of d) (place.Value f xs) mapped there)
+          worths_are d (at + 1) (All-contains (Says (meaning planner) (meaning user)) differences d all.each (item_contained differences at d here))
+          (one_item (slice_get (places_of differences) at) (place_of d) (place.Value f xs) mapped there)
           (sym (number_is (places_of differences) (place.Value f xs) o found) ∙ ap (option_map (λ n. n + 1)) some)
 
       pub worth_same : o ≡ None → (v : Option ℕ) → v ≡ value_of planner.values f xs → IsWorth models (place.Value f xs) (values.One v)

@@ -14,7 +14,6 @@ use Rattle.model_kit.specs.declared.model.CostExpr.TheVariants.{Number, Call}
 use Rattle.model_kit.specs.Places.{Place, Init, Goal, Pre, Add, Del, Knows, Cost, Value, Content, Feature, Price, Worth, Nothing}
 use Rattle.model_kit.specs.Runs.{Has, is_on, instance, object_of, price_of, cost_of}
 use Rattle.model_kit.proofs.NumberLemmas.{number_at, number_one}
-use Rattle.reach_kit.proofs.ListFacts.{contains_item}
 use Rattle.task_kit.proofs.PlaceLemmas.{push_cases}
 use Rattle.case_kit.specs.declared.cases.When.{When}
 use Rattle.case_kit.specs.declared.cases.When.TheVariants.{Always, IfTold, IfLeft}
@@ -33,10 +32,8 @@ use Rattle.named_tables.specs.Tables.{number_in, IsNumber, IsWhen, IsWorth, IsVa
 use Rattle.named_tables.proofs.CaseLemmas.{either_has}
 use Rattle.named_tables.proofs.NumberLemmas.{number_most, number_listed}
 use Rattle.pair_tables.specs.Made.{AreActionsUpTo, AreActionsOf, MayBeDone}
-
-not_so : (b : Bool) → (b ≡ true → ⊥) → not b ≡ true
-not_so true no_way = absurd (no_way refl)
-not_so false no_way = refl
+use Rattle.mre_base.proofs.Listed.{item_contained}
+use Rattle.mre_base.proofs.Tests.{not_so}
 
 module _ (models : Models) where
   abbrev d : ℕ
@@ -203,7 +200,7 @@ module _ (models : Models) where
           let none : GroundAction = record { schema = 0; objects = [] } in
           let same = are.counted in
           let at = slice_get-get_or actions k none (omega (arith, lt, same)) in
-          (get_or actions k none, contains_item actions k (get_or actions k none) at, are.each k (get_or actions k none) cases at (slice_get-get_or made k cases lt ∙ ap Some is))
+          (get_or actions k none, item_contained actions k (get_or actions k none) at, are.each k (get_or actions k none) cases at (slice_get-get_or made k cases lt ∙ ap Some is))
 
       among_when : (F : Type 0) (place : F → Place) (atom : F → GroundAtom) (cases : List Case) → AreCases models number F place atom cases → (when : When) → StandsAmong cases when → (p : Place) × IsWhen models p when
       among_when F place atom cases are when (case, among, same) = let (f, (named, is)) = are.each case among in (place f, subst (IsWhen models (place f)) same is)

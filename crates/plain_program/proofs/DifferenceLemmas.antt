@@ -13,10 +13,11 @@ use Rattle.model_kit.specs.declared.vocabulary.Vocabulary.{Vocabulary}
 use Rattle.model_kit.specs.Places.{Place, Meaning, same_place, meaning}
 use Rattle.model_kit.specs.Printed.{printed}
 use Rattle.model_kit.specs.Differences.{IsListedBefore, AreDifferences}
-use Rattle.model_kit.proofs.FirstLemmas.{cons_cases, cons_later}
+use Rattle.model_kit.proofs.FirstLemmas.{cons_cases}
 use Rattle.model_kit.proofs.PlaceLemmas.{listed_place, unlisted_place}
 use Rattle.model_kit.proofs.OrderLemmas.{Within}
 use Rattle.feature_diff.specs.Differing.{IsToldOf}
+use Rattle.mre_base.proofs.Loops.{contains_later}
 
 module _ {X : Type 0} (R : X → X → Type 0) (one_way : (x y : X) → R x y → R y x → ⊥) where
   head_before : (x : X) (xs : List X) → AllPairs R (x ∷ xs) → (y : X) → Contains xs y → R x y
@@ -31,7 +32,7 @@ module _ {X : Type 0} (R : X → X → Type 0) (one_way : (x y : X) → R x y �
       ⊎_elim
       (λ is. let twice : R x x = subst (R x) (is ∙ sym same) (head_before x xs pairs z at) in absurd (one_way x x twice twice))
       (λ later. later)
-      (cons_cases y ys z (over z (cons_later x xs z at)))
+      (cons_cases y ys z (over z (contains_later x xs z at)))
 
   one_list : (xs ys : List X) → AllPairs R xs → AllPairs R ys → ((z : X) → Contains xs z → Contains ys z) → ((z : X) → Contains ys z → Contains xs z) → xs ≡ ys
   one_list [] [] first second to from = refl

@@ -25,7 +25,7 @@ use Rattle.model_kit.specs.Vocabulary.{is_object_of, is_term_of, fits_signature,
 use Rattle.model_kit.specs.Places.{meaning, schema_has, Price, Nothing}
 use Rattle.model_kit.specs.Runs.{object_of, instance, price_of, cost_of}
 use Rattle.model_kit.proofs.Alike.{same_atom-decides, same_schema_atom-decides}
-use Rattle.model_kit.proofs.StepLemmas.{listed_from_any, any_from_listed, map_contains, contained_map}
+use Rattle.model_kit.proofs.StepLemmas.{listed_from_any, any_from_listed}
 use Rattle.model_kit.proofs.ModelFacts.{SchemaFacts, facts_of_model}
 use Rattle.model_kit.proofs.TypeLemmas.{entry_passes, entry_from}
 use Rattle.model_kit.proofs.Fits.{signature_listed}
@@ -36,6 +36,7 @@ use Rattle.task_kit.proofs.KeptLemmas.{below_listed, lists_in_range}
 use Rattle.task_kit.proofs.PlaceLemmas.{item_there}
 use Rattle.plain_program.specs.Numbered.{IsNamed, action_of, IsNumbered, facts_of, predicates_of, number_of, numbered}
 use Rattle.plain_program.proofs.ListFacts.{in_set, from_set}
+use Rattle.mre_base.proofs.Listed.{map-contains, contains-map}
 
 -- ---- what fits a plain vocabulary has no objects
 
@@ -95,8 +96,8 @@ same_ground a b p o = λ i. record { predicate = p i; objects = o i }
 facts_named : (atoms : List GroundAtom) → ((a : GroundAtom) → Contains atoms a → a.objects ≡ []) → (atom : GroundAtom) → (list_any (same_atom atom) atoms ≡ true) ↔ IsNamed (set_of (facts_of atoms)) atom
 facts_named atoms bare atom = (
   λ on. let listed = listed_from_any same_atom same_atom-decides atom atoms on in
-      (bare atom listed, in_set (facts_of atoms) atom.predicate (map_contains (λ a. a.predicate) atoms atom listed)),
-  λ named. let from = contained_map (λ a. a.predicate) atoms atom.predicate (from_set (facts_of atoms) atom.predicate named.1) in
+      (bare atom listed, in_set (facts_of atoms) atom.predicate (map-contains (λ a. a.predicate) atoms atom listed)),
+  λ named. let from = contains-map (λ a. a.predicate) atoms atom.predicate (from_set (facts_of atoms) atom.predicate named.1) in
       any_from_listed same_atom same_atom-decides atom atoms (subst (Contains atoms) (same_ground from.0 atom from.2 (bare from.0 from.1 ∙ sym named.0)) from.1),
 )
 
@@ -106,9 +107,9 @@ atoms_named : (fs : List SchemaAtom) → ((f : SchemaAtom) → Contains fs f →
 atoms_named fs bare atom = (
   λ (f, on, is). let listed = listed_from_any same_schema_atom same_schema_atom-decides f fs on in (
     sym (ap (λ a. a.objects) is) ∙ ap (map (object_of [])) (bare f listed),
-    subst (λ p. set.contains (set_of (predicates_of fs)) p ≡ true) (ap (λ a. a.predicate) is) (in_set (predicates_of fs) f.predicate (map_contains (λ g. g.predicate) fs f listed)),
+    subst (λ p. set.contains (set_of (predicates_of fs)) p ≡ true) (ap (λ a. a.predicate) is) (in_set (predicates_of fs) f.predicate (map-contains (λ g. g.predicate) fs f listed)),
   ),
-  λ named. let from = contained_map (λ g. g.predicate) fs atom.predicate (from_set (predicates_of fs) atom.predicate named.1) in (
+  λ named. let from = contains-map (λ g. g.predicate) fs atom.predicate (from_set (predicates_of fs) atom.predicate named.1) in (
     from.0,
     any_from_listed same_schema_atom same_schema_atom-decides from.0 fs from.1,
     same_ground (instance [] from.0) atom from.2 (ap (map (object_of [])) (bare from.0 from.1) ∙ sym named.0),

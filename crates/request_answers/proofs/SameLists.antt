@@ -11,7 +11,8 @@ use Rattle.model_kit.specs.Places.{Place, Meaning, same_place}
 use Rattle.model_kit.specs.Printed.{printed}
 use Rattle.model_kit.specs.Differences.{IsPrintedBefore, IsListedBefore, AreDifferences}
 use Rattle.model_kit.proofs.Alike.{same_place-decides}
-use Rattle.model_kit.proofs.FirstLemmas.{cons_cases, cons_later}
+use Rattle.model_kit.proofs.FirstLemmas.{cons_cases}
+use Rattle.mre_base.proofs.Loops.{contains_later}
 
 pub same_items : {X : Type 0} (xs ys : List X) → ((n : ℕ) → slice_get xs n ≡ slice_get ys n) → xs ≡ ys
 same_items [] [] same = refl
@@ -44,7 +45,7 @@ module _ {X : Type 0} (R : X → X → Type 0) (never_both : (x y : X) → R x y
       ⊎_elim
       (λ is. let again : R x x = subst (R x) (is ∙ sym same) (before_later x xs p one there) in absurd (never_both x x again again))
       (λ later. later)
-      (cons_cases y ys p (within p (cons_later x xs p there)))
+      (cons_cases y ys p (within p (contains_later x xs p there)))
 
   pub same_ordered : (xs ys : List X) → AllPairs R xs → AllPairs R ys → ((p : X) → Contains xs p → Contains ys p) → ((p : X) → Contains ys p → Contains xs p) → xs ≡ ys
   same_ordered [] [] one two to back = refl
@@ -74,7 +75,7 @@ place_in [] p = inr (λ there. omega (arith, there.1))
 place_in (q ∷ places) p =
     ⊎_elim
     (λ same. let is : p ≡ q = (same_place-decides p q).0 same in inl (0, omega arith, sym is))
-    (λ other. ⊎_elim (λ there. inl (cons_later q places p there))
+    (λ other. ⊎_elim (λ there. inl (contains_later q places p there))
     (λ away. inr (λ there. ⊎_elim (λ is. true≢false (sym ((same_place-decides p q).1 is) ∙ other)) away (cons_cases q places p there)))
     (place_in places p))
     (cases_Bool (same_place p q))

@@ -1,7 +1,8 @@
 use Rattle.std.proofs.Common.{subst}
 use Rattle.joint_models.specs.Renaming.{IsPartOf}
 use Rattle.joint_models.proofs.Joint.{actions_known, actions_known_turned}
-use Rattle.joint_models.proofs.Paired.{one_joint, planner_part, user_part, paired}
+use Rattle.model_kit.proofs.SameParts.{one_joint}
+use Rattle.joint_models.proofs.Paired.{planner_part, user_part, paired}
 use Rattle.joint_models.proofs.joining.joined.Goals as goal
 
 pub model_in-requires-clause-own_is : goal.model_in-requires-clause-own_is

@@ -1,7 +1,8 @@
 use Rattle.std.proofs.Common.{◌≡◌, ◌+◌, ◌∙◌, sym, true, drop}
 use Rattle.std.specs.List.{list_any}
-use Rattle.model_kit.proofs.FitLemmas.{at_some, any_here, any_more}
+use Rattle.model_kit.proofs.FitLemmas.{any_here, any_more}
 use Rattle.model_kit.proofs.entries.is_again.Goals as goal
+use Rattle.mre_base.proofs.Options.{at_some}
 
 pub returns-then-is_same : goal.returns-then-is_same
 returns-then-is_same g c =

@@ -7,7 +7,7 @@ use Rattle.feature_diff.specs.declared.difference.Difference.{Difference}
 use Rattle.feature_diff.specs.Differing.{AreDifferencesOf, places_of}
 use Rattle.feature_diff.specs.Blending.{is_told_at, IsBlend}
 use Rattle.feature_diff.proofs.BlendLemmas.{blend_means}
-use Rattle.feature_diff.proofs.OneListLemmas.{same_differences}
+use Rattle.model_kit.proofs.OneDifferences.{same_differences}
 use Rattle.feature_diff.proofs.pair.Pair.patched.Goals as goal
 
 pub returns-clause-ok : goal.returns-clause-ok
