@@ -1,4 +1,4 @@
--- The three sets of a cube stay apart.
+-- The three sets of a cube keep apart.
 use Rattle.std.proofs.Common.{◌≡◌, ℕ, ◌+◌, ◌≤◌, Bool, true, false, ◌&&◌, ◌||◌, not, nat_eq, nat_le, nat_lt, refl, sym, ap, ◌∙◌, arith, inl, inr}
 use Rattle.std.specs.Cmp.{nat_cmp_total}
 use Rattle.std.specs.FinSet as set
@@ -6,13 +6,14 @@ use Rattle.std.specs.FinSet.{contains-difference, contains-is_subset, is_subset-
 use Rattle.std.proofs.lemmas.Bool.{false≢true, and_parts, not_from_false, not_from_true, false_from_ne_true, and_from, eqb-true, or_cases}
 use Rattle.std.proofs.lemmas.Bool.Decides.{nat_tests}
 use Rattle.mre_base.proofs.SetsBelow.{contains-insert_nat, contains-remove_nat}
+use Rattle.mre_base.proofs.Tests.{and_true}
 use Rattle.cube_kit.specs.Cubes.{Told, CubeMeaning, IsWithin, is_listed, is_one_of, IsCube, is_at_most_one_of, IsApart, is_member, all_to, told_child, left_child}
 use Rattle.cube_kit.proofs.CubeLemmas.{at_place, contains-all_to, member_from}
 
 one_is_most : (d k : ℕ) (t l o : Bool) → d ≤ 256 → is_one_of (is_listed d k) t l o ≡ true → is_at_most_one_of (is_listed 256 k) t l o ≡ true
 one_is_most d k t l o few one = grind (arith, nat_tests)
 
--- a cube over few enough numbers
+-- a cube over at most 256 numbers
 pub cube_apart : (d : ℕ) (c : CubeMeaning) → d ≤ 256 → IsCube d c → IsApart c
 cube_apart d c few cube k = one_is_most d k _ _ _ few (cube k)
 
@@ -35,7 +36,7 @@ left_apart c place there apart k =
     at_most (is_listed 256 k) (set.contains c.told k) _ _ _ _ _ refl (contains-insert_nat c.left place k) (contains-remove_nat c.undecided place k)
     (move_left (is_listed 256 k) (nat_eq k place) _ _ _ (at_place c.undecided place k there) (apart k))
 
--- what is told isn't left
+-- a left number isn't told
 told_out : (w t l o : Bool) → is_at_most_one_of w t l o ≡ true → l ≡ true → t ≡ false
 told_out w t l o most left = grind arith
 
@@ -48,8 +49,8 @@ left_listed k t l o most left = grind (arith, nat_tests)
 pub left_within : (c : CubeMeaning) → IsApart c → IsWithin 256 c.left
 left_within c apart k there = left_listed k (set.contains c.told k) _ (set.contains c.undecided k) (apart k) there
 
--- ---- the numbers that a set lacks, one after another
--- the numbers below a bound that a set lacks, from 1 on
+-- ---- the numbers that a set lacks, found one after another
+-- the second set has the numbers from 1 on, below the bound, that the first set lacks
 pub record AreOthers (than others : Told) (bound : ℕ) : Type 0 where
   pub each : (k : ℕ) → set.contains others k ≡ ((nat_le 1 k && nat_lt k bound) && not (set.contains than k))
 
@@ -87,18 +88,14 @@ others_all d n than others low high are =
     are.each k ∙ all_listed d n k (not (set.contains than k)) low high
     ∙ sym (contains-difference nat_cmp_total (all_to d) than k ∙ ap (λ b. b && not (set.contains than k)) (contains-all_to d k)))
 
-and_true : (b : Bool) → (b && true) ≡ b
-and_true true = refl
-and_true false = refl
-
--- a set without the numbers of the empty set
+-- the numbers that the empty set lacks
 pub difference-empty : (d : ℕ) (rest none : Told) → none ≡ set.empty → rest ≡ set.difference (all_to d) none → rest ≡ all_to d
 difference-empty d rest none e is =
     same_set nat_cmp_total nat_cmp-IsAntisymmetric rest (all_to d) (λ k.
     ap (λ s. set.contains s k) is ∙ contains-difference nat_cmp_total (all_to d) none k
     ∙ ap (λ b. set.contains (all_to d) k && not b) (ap (λ s. set.contains s k) e ∙ set.contains-empty _ k) ∙ and_true _)
 
--- ---- two sets with a common number, and without one
+-- ---- two sets with a common number, and two without
 pub apart_none : (one two : Told) (k : ℕ) → set.contains one k ≡ true → set.contains two k ≡ true → false ≡ set.is_subset one (set.difference one two)
 apart_none one two k in_one in_two = sym (false_from_ne_true _ (λ sub.
     false≢true (sym (not_from_true _ in_two) ∙ (and_parts _ _ (sym (contains-difference nat_cmp_total one two k) ∙ is_subset-contains nat_cmp_total one _ sub k in_one)).1)))
@@ -111,7 +108,7 @@ apart_all one two lacks =
 pub same_cube : (t l o t' l' o' : Told) → t ≡ t' → l ≡ l' → o ≡ o' → ◌≡◌ {A = CubeMeaning} (record { told = t; left = l; undecided = o }) (record { told = t'; left = l'; undecided = o' })
 same_cube t l o t' l' o' et el eo = λ i. record { told = et i; left = el i; undecided = eo i }
 
--- ---- sets within 1 to d, one number after another
+-- ---- sets within 1 to d, built one number after another
 pub within_none : (d : ℕ) (s : Told) → s ≡ set.empty → IsWithin d s
 within_none d s e k there = absurd (false≢true (sym (ap (λ t. set.contains t k) e ∙ set.contains-empty _ k) ∙ there))
 

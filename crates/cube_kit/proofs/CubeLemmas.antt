@@ -1,45 +1,31 @@
 -- Cubes and their members, number by number.
 use Rattle.std.proofs.Common.{◌≡◌, ℕ, ◌+◌, ◌≤◌, Bool, true, false, ◌&&◌, ◌||◌, not, cond, List, length, nat_eq, refl, sym, ap, ◌∙◌, arith, ◌⊎◌, inl, inr}
 use Rattle.std.specs.List.{range_with_len}
-use Rattle.std.specs.Ordering.{nat_cmp, eq_by_cmp}
+use Rattle.std.specs.Ordering.{nat_cmp}
 use Rattle.std.specs.Cmp.{nat_cmp_total}
 use Rattle.std.specs.FinSet as set
-use Rattle.std.specs.FinSet.{same_set, is_subset-contains, contains-is_subset, contains-empty, contains-insert, contains-remove, contains-difference, contains-from_list_nat, nat_cmp-IsAntisymmetric}
-use Rattle.std.proofs.lemmas.Bool.{and_parts, and_from, or_cases, or_left, or_right, eq-eqb, eqb-true, false≢true, not_from_false, not-true}
+use Rattle.std.specs.FinSet.{same_set, is_subset-contains, contains-is_subset, contains-empty, contains-difference, contains-from_list_nat, nat_cmp-IsAntisymmetric}
+use Rattle.std.proofs.lemmas.Bool.{and_parts, and_from, eqb-true, false≢true, not_from_false, not-true}
 use Rattle.std.proofs.lemmas.Bool.Decides.{nat_tests}
 use Rattle.mre_base.specs.Before.{is_before}
+use Rattle.mre_base.proofs.SetsBelow.{contains-insert_nat, contains-remove_nat, has_inserted, has_before, insert_cases}
+use Rattle.mre_base.proofs.Tests.{same_test}
 use Rattle.cube_kit.specs.Cubes.{Told, CubeMeaning, IsWithin, is_listed, is_one_of, IsCube, is_member, is_inside, all_to, root, single, above, told_child, left_child}
 use Rattle.cube_kit.specs.Laws.{CubeLaw}
 use Rattle.cube_kit.specs.Weighing.{AreWeights}
 use Rattle.cube_kit.proofs.OrderLemmas.{before_greater}
 use Rattle.cube_kit.proofs.RangeLemmas.{is_in_range, any-range}
 
-same_test : (a b : Bool) → (a ≡ true → b ≡ true) → (b ≡ true → a ≡ true) → a ≡ b
-same_test true true there back = refl
-same_test true false there back = sym (there refl)
-same_test false true there back = back refl
-same_test false false there back = refl
-
--- a test of equality by the order of numbers
-tied : (q k : ℕ) → eq_by_cmp nat_cmp q k ≡ nat_eq q k
-tied q k = grind (arith, nat_tests)
-
-pub contains-insert_nat : (s : Told) (k q : ℕ) → set.contains (set.insert s k) q ≡ (nat_eq q k || set.contains s q)
-contains-insert_nat s k q = contains-insert nat_cmp_total s k q ∙ ap (λ b. b || set.contains s q) (tied q k)
-
-pub contains-remove_nat : (s : Told) (k q : ℕ) → set.contains (set.remove s k) q ≡ (not (nat_eq q k) && set.contains s q)
-contains-remove_nat s k q = contains-remove nat_cmp_total s k q ∙ ap (λ b. not b && set.contains s q) (tied q k)
-
 pub contains-all_to : (d k : ℕ) → set.contains (all_to d) k ≡ is_listed d k
 contains-all_to d k = contains-from_list_nat (range_with_len 1 d) k ∙ any-range 1 d k ∙ in_list where
   in_list : is_in_range 1 d k ≡ is_listed d k
   in_list = grind (arith, nat_tests)
 
--- a member has what is told
+-- a member has each told number
 pub member_has : (c : CubeMeaning) (s : Told) → is_member c s ≡ true → (k : ℕ) → set.contains c.told k ≡ true → set.contains s k ≡ true
 member_has c s is k told = is_subset-contains nat_cmp_total c.told s (and_parts _ _ is).0 k told
 
--- a member has nothing of what is left
+-- a member has no left number
 pub member_lacks : (c : CubeMeaning) (s : Told) → is_member c s ≡ true → (k : ℕ) → set.contains c.left k ≡ true → set.contains s k ≡ false
 member_lacks c s is k left =
     not-true _ (and_parts _ _ (sym (contains-difference nat_cmp_total c.left s k) ∙ is_subset-contains nat_cmp_total c.left (set.difference c.left s) (and_parts _ _ is).1 k left)).1
@@ -49,7 +35,7 @@ member_from c s has lacks =
     and_from _ _ (contains-is_subset nat_cmp_total c.told s has)
     (contains-is_subset nat_cmp_total c.left (set.difference c.left s) (λ k left. contains-difference nat_cmp_total c.left s k ∙ and_from _ _ left (not_from_false _ (lacks k left))))
 
--- the set has nothing of what is left
+-- the set has no left number
 abbrev is_clear : Told → Told → Bool
 is_clear left s = set.is_subset left (set.difference left s)
 
@@ -58,16 +44,6 @@ clear_lacks left s clear k there = member_lacks (record { told = set.empty; left
 
 lacks_clear : (left s : Told) → ((k : ℕ) → set.contains left k ≡ true → set.contains s k ≡ false) → is_clear left s ≡ true
 lacks_clear left s lacks = (and_parts _ _ (member_from (record { told = set.empty; left = left; undecided = set.empty }) s (λ k h. absurd (false≢true (sym (contains-empty nat_cmp k) ∙ h))) lacks)).1
-
-has_inserted : (s : Told) (p : ℕ) → set.contains (set.insert s p) p ≡ true
-has_inserted s p = contains-insert_nat s p p ∙ or_left _ _ (eq-eqb p p refl)
-
-has_before : (s : Told) (p k : ℕ) → set.contains s k ≡ true → set.contains (set.insert s p) k ≡ true
-has_before s p k there = contains-insert_nat s p k ∙ or_right _ _ there
-
--- a number of a set with one more number is that one, or was there
-insert_cases : (s : Told) (p k : ℕ) → set.contains (set.insert s p) k ≡ true → (k ≡ p) ⊎ (set.contains s k ≡ true)
-insert_cases s p k there = elim (or_cases _ _ (sym (contains-insert_nat s p k) ∙ there)) [ inl e ↦ inl (eqb-true k p e) | inr h ↦ inr h ]
 
 subset-insert : (a s : Told) (p : ℕ) → set.is_subset (set.insert a p) s ≡ (set.is_subset a s && set.contains s p)
 subset-insert a s p =
@@ -161,7 +137,7 @@ inside_has c e s inside is =
     (λ k told. member_has e s is k (is_subset-contains nat_cmp_total c.told e.told (and_parts _ _ inside).0 k told))
     (λ k left. member_lacks e s is k (is_subset-contains nat_cmp_total c.left e.left (and_parts _ _ inside).1 k left))
 
--- what a test of three sets says of each
+-- what follows for each set from a test of all three
 left_listed : (listed t l o : Bool) → is_one_of listed t l o ≡ true → l ≡ true → (listed ≡ true) × (t ≡ false)
 left_listed true true true o h e = absurd (false≢true h)
 left_listed true false true o h e = (refl, refl)
@@ -194,7 +170,7 @@ told_is_within d c cube k there = listed (told_listed (is_listed d k) _ (set.con
 pub told_is_first : (weights : List ℕ) (c : CubeMeaning) (s : Told) → AreWeights weights → IsWithin (length weights) s → is_member c s ≡ true → (c.told ≡ s) ⊎ (is_before weights c.told s ≡ true)
 told_is_first weights c s heavy within is = before_greater weights c.told s heavy within (and_parts _ _ is).0
 
--- the test of three sets at changed sets
+-- the test of three sets, of other sets with the same answers
 pub one_of : (w t l o t' l' o' : Bool) → t' ≡ t → l' ≡ l → o' ≡ o → is_one_of w t l o ≡ true → is_one_of w t' l' o' ≡ true
 one_of w t l o t' l' o' et el eo h = (λ i. is_one_of w (et i) (el i) (eo i)) ∙ h
 
@@ -219,7 +195,7 @@ single_cube d s within k = one_of (is_listed d k) (set.contains s k) _ false _ _
 pub above_cube : (d : ℕ) (s : Told) → IsWithin d s → IsCube d (above d s)
 above_cube d s within k = one_of (is_listed d k) (set.contains s k) false _ _ _ _ refl (contains-empty nat_cmp k) (rest_of d s k) (split_above d k (set.contains s k) (within k))
 
--- a number that goes from one set to another
+-- a number moves from one set to another
 move_told : (w e t l o : Bool) → (e ≡ true → o ≡ true) → is_one_of w t l o ≡ true → is_one_of w (e || t) l (not e && o) ≡ true
 move_told w e t l o h one = grind arith
 

@@ -1,4 +1,4 @@
--- The order of sets, level by level: by a number, and then by a test where the numbers are equal.
+-- The order of sets, level by level: first by a number, and by a test where the numbers are equal.
 use Rattle.std.proofs.Common.{◌≡◌, ℕ, zero, suc, ◌+◌, ◌-◌, ◌≤◌, ◌<◌, Bool, true, false, ◌&&◌, cond, List, [], ◌∷◌, length, filter, take, replicate, slice_index, nat_eq, nat_lt, refl, sym, ap, ◌∙◌, arith, ◌⊎◌, inl, inr}
 use Rattle.std.specs.List.{range_with_len, list_any}
 use Rattle.std.specs.Cmp.{nat_cmp_total}
@@ -9,20 +9,14 @@ use Rattle.std.proofs.lemmas.Bool.Decides.{nat_tests}
 use Rattle.std.proofs.lemmas.List.{get_or-take, length-take, get_or-replicate, length-replicate}
 use Rattle.std.proofs.lemmas.List.Sums.{sum_by-cons}
 use Rattle.mre_base.specs.Before.{numbers, count_of, weight, is_earlier_list, is_smaller, is_lighter, is_before}
+use Rattle.mre_base.proofs.ListOrder.{by_number, number_trans, earlier_trans, filter-shorter}
 use Rattle.cube_kit.specs.Cubes.{Told, IsWithin}
 use Rattle.cube_kit.specs.Laws.{OrderLaw}
 use Rattle.cube_kit.specs.Weighing.{AreWeights}
-use Rattle.cube_kit.proofs.RangeLemmas.{is_in_range, any-filter-range, filter-range-more, filter-range-less}
-
--- first by a number, and then by a test
-abbrev by_number : ℕ → ℕ → Bool → Bool
-by_number n m r = cond (nat_eq n m) r (nat_lt n m)
+use Rattle.cube_kit.proofs.RangeLemmas.{is_in_range, any-filter-range, filter-range-less}
 
 number_one_way : (n m : ℕ) (r s : Bool) → (r ≡ true → s ≡ false) → by_number n m r ≡ true → by_number m n s ≡ false
 number_one_way n m r s less h = grind (arith, nat_tests)
-
-number_trans : (n m k : ℕ) (r s t : Bool) → (r ≡ true → s ≡ true → t ≡ true) → by_number n m r ≡ true → by_number m k s ≡ true → by_number n k t ≡ true
-number_trans n m k r s t less h i = grind (arith, nat_tests)
 
 number_less : (n m : ℕ) (r : Bool) → n < m → by_number n m r ≡ true
 number_less n m r lt = grind (arith, nat_tests)
@@ -30,7 +24,7 @@ number_less n m r lt = grind (arith, nat_tests)
 number_same : (n m : ℕ) (r : Bool) → n ≡ m → r ≡ true → by_number n m r ≡ true
 number_same n m r e h = grind (arith, nat_tests)
 
--- of two things one is before the other, or they are one
+-- one of two things is before the other, or they are equal
 abbrev IsTotal : {A : Type 0} → (A → A → Bool) → A → A → Type 0
 IsTotal before x y = (x ≡ y) ⊎ (before x y ≡ true) ⊎ (before y x ≡ true)
 
@@ -49,15 +43,6 @@ earlier_one_way [] [] h = refl
 earlier_one_way [] (y ∷ ys) h = refl
 earlier_one_way (x ∷ xs) [] h = absurd (false≢true h)
 earlier_one_way (x ∷ xs) (y ∷ ys) h = number_one_way x y (is_earlier_list xs ys) (is_earlier_list ys xs) (earlier_one_way xs ys) h
-
-earlier_trans : (xs ys zs : List ℕ) → is_earlier_list xs ys ≡ true → is_earlier_list ys zs ≡ true → is_earlier_list xs zs ≡ true
-earlier_trans [] [] zs h i = i
-earlier_trans [] (y ∷ ys) [] h i = absurd (false≢true i)
-earlier_trans [] (y ∷ ys) (z ∷ zs) h i = refl
-earlier_trans (x ∷ xs) [] zs h i = absurd (false≢true h)
-earlier_trans (x ∷ xs) (y ∷ ys) [] h i = absurd (false≢true i)
-earlier_trans (x ∷ xs) (y ∷ ys) (z ∷ zs) h i =
-    number_trans x y z (is_earlier_list xs ys) (is_earlier_list ys zs) (is_earlier_list xs zs) (earlier_trans xs ys zs) h i
 
 earlier_total : (xs ys : List ℕ) → IsTotal is_earlier_list xs ys
 earlier_total [] [] = inl refl
@@ -85,13 +70,13 @@ lighter_trans ws xs ys zs =
 lighter_total : (ws xs ys : List ℕ) → IsTotal (is_lighter ws) xs ys
 lighter_total ws xs ys = number_total (weight ws) is_smaller xs ys (number_total length is_earlier_list xs ys (earlier_total xs ys))
 
--- a set within 1 to d has the numbers of its list, and no others
+-- a set within 1 to d has exactly the numbers of its list
 contains-numbers : (d : ℕ) (s : Told) (k : ℕ) → IsWithin d s → set.contains s k ≡ list_any (λ y. nat_eq y k) (numbers d s)
 contains-numbers d s k within = by_range (set.contains s k) (within k) ∙ sym (any-filter-range (set.contains s) 1 d k) where
   by_range : (b : Bool) → (b ≡ true → (1 ≤ k) × (k ≤ d)) → b ≡ (is_in_range 1 d k && b)
   by_range b h = grind (arith, nat_tests)
 
--- sets within 1 to d with one list are one set
+-- sets within 1 to d with the same list are equal
 pub same_numbers : (d : ℕ) (a b : Told) → IsWithin d a → IsWithin d b → numbers d a ≡ numbers d b → a ≡ b
 same_numbers d a b wa wb same =
     same_set nat_cmp_total nat_cmp-IsAntisymmetric a b
@@ -121,13 +106,13 @@ before_greater ws a b heavy wb sub =
       | inr lt ↦ inr (number_less _ _ _ lt)
     ]
 
--- a set within 1 to d has one list of numbers, however far one looks
+-- the list of a set within 1 to d is the same up to any greater number
 pub numbers-more : (d e : ℕ) (s : Told) → d ≤ e → IsWithin d s → numbers e s ≡ numbers d s
-numbers-more d e s le within = filter-range-more (set.contains s) 1 d e le (λ k low. out k low (set.contains s k) (within k)) where
+numbers-more d e s le within = filter-shorter (set.contains s) 1 d e le (λ k low. out k low (set.contains s k) (within k)) where
   out : (k : ℕ) → 1 + d ≤ k → (b : Bool) → (b ≡ true → (1 ≤ k) × (k ≤ d)) → b ≡ false
   out k low b h = grind (arith, nat_tests)
 
--- weights beyond d play no part for numbers from 1 to d
+-- the weights of numbers from 1 to d don't depend on weights beyond d
 weight-take : (ws : List ℕ) (d : ℕ) (p : ℕ → Bool) (a n : ℕ) → 1 ≤ a → a + n ≤ d + 1 → weight (take d ws) (filter p (range_with_len a n)) ≡ weight ws (filter p (range_with_len a n))
 weight-take ws d p a zero low high = refl
 weight-take ws d p a (suc n) low high = step (p a) (weight-take ws d p (a + 1) n (omega arith) (omega arith)) (get_or-take d ws (a - 1) 0 (omega arith)) where
@@ -159,7 +144,7 @@ before_narrow ws d a b le wa wb =
     λ i. by_number (weight-shorter ws d a le wa i) (weight-shorter ws d b le wb i) (is_smaller (numbers-narrow ws d a le wa i) (numbers-narrow ws d b le wb i))
 
 -- ---- the order where every weight is 1
--- the weight of numbers from 1 to d is then how many they are
+-- the weight of numbers from 1 to d is then their count
 weight-ones : (d : ℕ) (p : ℕ → Bool) (a n : ℕ) → 1 ≤ a → a + n ≤ d + 1 → weight (replicate d 1) (filter p (range_with_len a n)) ≡ length (filter p (range_with_len a n))
 weight-ones d p a zero low high = refl
 weight-ones d p a (suc n) low high = step (p a) (weight-ones d p (a + 1) n (omega arith) (omega arith)) (get_or-replicate d (a - 1) 1 0 (omega arith)) where
@@ -208,7 +193,7 @@ before_by_list ws a b d r same as_many e is =
     is ∙ ap (λ k. is_earlier_list (numbers k a) (numbers k b)) e
     ∙ number_then _ _ _ as_many ∙ number_then _ _ _ same
 
--- how many of the numbers that a difference may have are in a set
+-- the number of differences from 1 to 256 in a set
 pub count-numbers : (ws : List ℕ) (s : Told) → length ws ≡ 256 → count_of s ≡ length (numbers (length ws) s)
 unfolding count_of
 count-numbers ws s e = ap (λ k. length (numbers k s)) (sym e)

@@ -1,4 +1,4 @@
--- Walks over the numbers from 1 on: what is still to come of a filtered range, at each number.
+-- Loops over the numbers from 1 on: the rest of a filtered range, from each number on.
 use Rattle.std.proofs.Common.{◌≡◌, ℕ, zero, suc, ◌+◌, ◌-◌, ◌*◌, ◌≤◌, ◌<◌, Bool, true, false, not, cond, List, [], ◌∷◌, length, filter, slice_index, nat_lt, Fits, w64, refl, sym, ap, ◌∙◌, arith, subst}
 use Rattle.std.specs.Bool.{beq}
 use Rattle.std.specs.List.{range_with_len}
@@ -24,7 +24,7 @@ pub low_none : (new sum place : ℕ) → new ≡ sum → sum ≤ place * 1000000
 low_none new sum place is low = omega arith
 
 module _ (ws : List ℕ) (p : ℕ → Bool) where
-  -- the sum of the weights that are still to come
+  -- the sum of the remaining weights
   abbrev pub weight_from : ℕ → ℕ → ℕ
   weight_from a n = weight ws (filter p (range_with_len a n))
 
@@ -37,7 +37,7 @@ module _ (ws : List ℕ) (p : ℕ → Bool) where
       none_added : (x : ℕ) → x ≡ 0 + x
       none_added x = omega arith
 
-  -- at the first number all are still to come
+  -- at the first number all weights remain
   pub sum_start : (n : ℕ) → length ws ≡ n - 1 → 0 + weight_from 1 (n - 1) ≡ weight ws (filter p (range_with_len 1 (length ws)))
   sum_start n e = from_zero (weight_from 1 (n - 1)) (weight_from 1 (length ws)) (ap (λ i. weight_from 1 i) (sym e)) where
     from_zero : (x y : ℕ) → x ≡ y → 0 + x ≡ y
@@ -54,7 +54,7 @@ module _ (ws : List ℕ) (p : ℕ → Bool) where
   pub sum_last : (a n sum all : ℕ) → n ≡ 0 → sum + weight_from a n ≡ all → sum ≡ all
   sum_last a n sum all e whole = omega (arith, ap (λ i. weight_from a i) e)
 
--- ---- two filtered ranges with as many numbers
+-- ---- two filtered ranges with equally many numbers
 later_head : (q : ℕ → Bool) (a n y : ℕ) (ys : List ℕ) → filter q (range_with_len a n) ≡ y ∷ ys → a ≤ y
 later_head q a zero y ys e = absurd (cc)
 later_head q a (suc n) y ys e = step (q a) e (later_head q (a + 1) n y ys) where
@@ -81,7 +81,7 @@ earlier-same a xs ys = ap (λ b. cond b (is_earlier_list xs ys) (nat_lt a a)) (e
 list_here : (r : ℕ → Bool) (a m : ℕ) (b : Bool) → r a ≡ b → filter r (range_with_len a (suc m)) ≡ cond b (a ∷ filter r (range_with_len (a + 1) m)) (filter r (range_with_len (a + 1) m))
 list_here r a m b e = ap (λ c. cond c (a ∷ filter r (range_with_len (a + 1) m)) (filter r (range_with_len (a + 1) m))) e
 
--- as many numbers are still to come of each, and which list is the earlier shows there
+-- equally many numbers remain of both, and the order of the rests is the order of the lists
 pub record IsUndecided (p q : ℕ → Bool) (a n : ℕ) (answer : Bool) : Type 0 where
   pub as_many : length (filter p (range_with_len a n)) ≡ length (filter q (range_with_len a n))
   pub decides : is_earlier_list (filter p (range_with_len a n)) (filter q (range_with_len a n)) ≡ answer
@@ -115,7 +115,7 @@ module _ (p q : ℕ → Bool) where
   pub earlier_next : (a n m : ℕ) (answer : Bool) → n ≡ suc m → p a ≡ q a → IsUndecided p q a n answer → IsUndecided p q (a + 1) m answer
   earlier_next a n m answer e same o = both_next a m answer (p a) refl (sym same) (subst (λ i. IsUndecided p q a i answer) e o)
 
-  -- the tests differ at a number: the first passes there exactly where its list is the earlier
+  -- the tests differ at a number: the list of the test that passes there is the earlier one
   pub earlier_here : (a n m : ℕ) (answer : Bool) → n ≡ suc m → (p a ≡ q a → ⊥) → IsUndecided p q a n answer → p a ≡ answer
   earlier_here a n m answer e apart o = by (p a) (q a) refl refl where
     here : IsUndecided p q a (suc m) answer
@@ -127,7 +127,7 @@ module _ (p q : ℕ → Bool) where
     by false true ep eq = ep ∙ second_here a m answer ep eq here
     by false false ep eq = absurd (apart (ep ∙ sym eq))
 
-  -- no number is left
+  -- no number remains
   pub earlier_none : (a n : ℕ) (answer : Bool) → n ≡ 0 → IsUndecided p q a n answer → false ≡ answer
   earlier_none a n answer e o = (subst (λ i. IsUndecided p q a i answer) e o).decides
 
@@ -138,7 +138,7 @@ module _ (p q : ℕ → Bool) where
     back : d ≡ d + 1 - 1
     back = omega arith
 
--- what a comparison of two answers says
+-- two answers that were compared
 pub same_test : (b c b' c' : Bool) → b ≡ b' → c ≡ c' → not (beq b c) ≡ false → b' ≡ c'
 same_test b c b' c' eb ec h = grind arith
 

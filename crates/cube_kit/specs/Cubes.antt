@@ -1,5 +1,5 @@
--- Cubes of sets of difference numbers. A cube tells some numbers, leaves some, and has not decided
--- the others; its members are the sets that have what it tells and nothing that it leaves.
+-- Cubes of sets of difference numbers. Some numbers of a cube are told, some are left, and the
+-- others are undecided; its members are the sets that have all told numbers and no left number.
 use Rattle.std.specs.Prelude.{ℕ, ◌≡◌, ◌≤◌, Bool, true, ◌&&◌, not, if◌then◌else◌, nat_le, refl}
 use Rattle.std.specs.Ordering.{nat_cmp}
 use Rattle.std.specs.List.{range_with_len}
@@ -32,11 +32,11 @@ is_listed d k = nat_le 1 k && nat_le k d
 abbrev pub IsWithin : ℕ → Told → Type 0
 IsWithin d s = (k : ℕ) → set.contains s k ≡ true → (1 ≤ k) × (k ≤ d)
 
--- exactly one of three tests is passed where a number is listed, and none elsewhere
+-- exactly one of three tests passes for a listed number, and no test for another number
 abbrev pub is_one_of : Bool → Bool → Bool → Bool → Bool
 is_one_of listed told left undecided =
-    if listed then (if told then not left
-    && not undecided else if left then not undecided else undecided)
+    if listed
+    then (if told then not left && not undecided else if left then not undecided else undecided)
     else (not told && (not left && not undecided))
 
 -- the three sets split the numbers from 1 to d
@@ -45,19 +45,19 @@ IsCube d c =
     (k : ℕ) → is_one_of (is_listed d k) (set.contains c.told k) (set.contains c.left k)
     (set.contains c.undecided k) ≡ true
 
--- at most one of three tests is passed where a number is listed, and none elsewhere
+-- at most one of three tests passes for a listed number, and no test for another number
 abbrev pub is_at_most_one_of : Bool → Bool → Bool → Bool → Bool
 is_at_most_one_of listed told left undecided =
     if listed then (if told then not left && not undecided else not (left && undecided))
     else (not told && (not left && not undecided))
 
--- the three sets have no common number, and no number beyond 1 to 256
+-- the three sets have no common number, and only numbers from 1 to 256
 abbrev pub IsApart : CubeMeaning → Type 0
 IsApart c =
     (k : ℕ) → is_at_most_one_of (is_listed 256 k) (set.contains c.told k) (set.contains c.left k)
     (set.contains c.undecided k) ≡ true
 
--- the set has what is told, and nothing of what is left
+-- the set has all told numbers and no left number
 abbrev pub is_member : CubeMeaning → Told → Bool
 is_member c s = set.is_subset c.told s && set.is_subset c.left (set.difference c.left s)
 
@@ -65,11 +65,11 @@ is_member c s = set.is_subset c.told s && set.is_subset c.left (set.difference c
 abbrev pub all_to : ℕ → Told
 all_to d = set.from_list (range_with_len 1 d)
 
--- the cube with all undecided
+-- the cube with all numbers undecided
 abbrev pub root : ℕ → CubeMeaning
 root d = record { told = set.empty; left = set.empty; undecided = all_to d }
 
--- the cube whose one member is the set
+-- the cube whose only member is the set
 abbrev pub single : ℕ → Told → CubeMeaning
 single d s = record { told = s; left = set.difference (all_to d) s; undecided = set.empty }
 
@@ -83,8 +83,7 @@ told_child c place =
     record {
       told = set.insert c.told place;
       left = c.left;
-      undecided = set.remove c.undecided
-          place;
+      undecided = set.remove c.undecided place;
     }
 
 -- the cube with one more number left
@@ -93,11 +92,10 @@ left_child c place =
     record {
       told = c.told;
       left = set.insert c.left place;
-      undecided = set.remove c.undecided
-          place;
+      undecided = set.remove c.undecided place;
     }
 
--- the first cube tells what the second tells and leaves what it leaves, so each member of the first
--- is one of the second
+-- each number told in the second cube is told in the first, and so are the left ones left, so that
+-- each member of the first cube is a member of the second
 abbrev pub is_inside : CubeMeaning → CubeMeaning → Bool
 is_inside e c = set.is_subset c.told e.told && set.is_subset c.left e.left

@@ -7,28 +7,25 @@ use Rattle.cube_kit.specs.Weighing.{AreWeights}
 use Rattle.cube_kit.specs.Cubes.{Told, CubeMeaning, IsWithin, IsCube, is_member, is_inside, root}
 use Rattle.cube_kit.specs.Cubes.{single, above, told_child, left_child}
 
--- the order of sets is strict and total, a set is before each greater one, weights beyond the sets'
--- numbers play no part, and where every
--- weight is 1 the order is by size and then by numbers
+-- the order of sets is strict and total, and a set is before each greater one; weights beyond the
+-- sets' numbers play no part; if every weight is 1, the order is by size and then by numbers
 pub record OrderLaw : Type 0 where
   pub one_way : (weights : List ℕ) (a b : Told) → is_before weights a b ≡ true
       → is_before weights b a ≡ false
   pub trans : (weights : List ℕ) (a b c : Told) → is_before weights a b ≡ true
       → is_before weights b c ≡ true → is_before weights a c ≡ true
-  pub total : (weights : List ℕ) (a b : Told) → IsWithin (length weights) a
-      → IsWithin (length weights) b →
-      (a ≡ b) ⊎ (is_before weights a b ≡ true) ⊎ (is_before weights b a ≡ true)
+  pub total : (weights : List ℕ) (a b : Told)
+      → IsWithin (length weights) a → IsWithin (length weights) b
+      → (a ≡ b) ⊎ (is_before weights a b ≡ true) ⊎ (is_before weights b a ≡ true)
   pub greater : (weights : List ℕ) (a b : Told) → AreWeights weights → IsWithin (length weights) b
-      → set.is_subset a b ≡ true →
-      (a ≡ b) ⊎ (is_before weights a b ≡ true)
-  pub narrow : (weights : List ℕ) (d : ℕ) (a b : Told) → d ≤ length weights → IsWithin d a
-      → IsWithin d b →
-      is_before (take d weights) a b ≡ is_before weights a b
+      → set.is_subset a b ≡ true → (a ≡ b) ⊎ (is_before weights a b ≡ true)
+  pub narrow : (weights : List ℕ) (d : ℕ) (a b : Told) → d ≤ length weights
+      → IsWithin d a → IsWithin d b → is_before (take d weights) a b ≡ is_before weights a b
   pub even : (d : ℕ) (a b : Told) → is_before (replicate d 1) a b
       ≡ is_smaller (numbers d a) (numbers d b)
 
 -- the laws of cubes: which sets are members, and that inner cubes, children and single cubes have
--- members of the cube alone
+-- only members of the cube
 pub record CubeLaw : Type 0 where
   pub root_has : (d : ℕ) (s : Told) → is_member (root d) s ≡ true
   pub single_has : (d : ℕ) (s t : Told) → IsWithin d t → is_member (single d s) t ≡ true → s ≡ t
@@ -37,8 +34,8 @@ pub record CubeLaw : Type 0 where
       → is_member (told_child c place) s ≡ (is_member c s && set.contains s place)
   pub left_has : (c : CubeMeaning) (place : ℕ) (s : Told)
       → is_member (left_child c place) s ≡ (is_member c s && not (set.contains s place))
-  pub one_child : (c : CubeMeaning) (place : ℕ) (s : Told) →
-      cond (is_member (told_child c place) s) 1 0 + cond (is_member (left_child c place) s) 1 0
+  pub one_child : (c : CubeMeaning) (place : ℕ) (s : Told)
+      → cond (is_member (told_child c place) s) 1 0 + cond (is_member (left_child c place) s) 1 0
       ≡ cond (is_member c s) 1 0
   pub told_inside : (c : CubeMeaning) (place : ℕ) → is_inside (told_child c place) c ≡ true
   pub left_inside : (c : CubeMeaning) (place : ℕ) → is_inside (left_child c place) c ≡ true
@@ -58,5 +55,5 @@ pub record CubeLaw : Type 0 where
   pub told_is_member : (d : ℕ) (c : CubeMeaning) → IsCube d c → is_member c c.told ≡ true
   pub told_is_within : (d : ℕ) (c : CubeMeaning) → IsCube d c → IsWithin d c.told
   pub told_is_first : (weights : List ℕ) (c : CubeMeaning) (s : Told) → AreWeights weights
-      → IsWithin (length weights) s → is_member c s ≡ true →
-      (c.told ≡ s) ⊎ (is_before weights c.told s ≡ true)
+      → IsWithin (length weights) s → is_member c s ≡ true
+      → (c.told ≡ s) ⊎ (is_before weights c.told s ≡ true)

@@ -1,4 +1,4 @@
--- Weights of differences, as the list of the weights of the differences from 1 on.
+-- The weights of the differences, listed from difference 1 on.
 use Rattle.std.specs.Prelude.{ℕ, ◌-◌, ◌≡◌, ◌≤◌, List, length, slice_index}
 
 -- each difference has a weight from 1 to 1000000

@@ -1,3 +1,4 @@
+//! Cubes: collections of sets of differences.
 ghost use Rattle.std.specs.Prelude.{ℕ, ◌≡◌, ◌≤◌, ◌↔◌, ◌&&◌, IsTrue, true, List, length, ◌⊎◌};
 ghost use Rattle.std.specs.FinSet as set;
 ghost use Rattle.std.specs.FinSet.{is_subset};
@@ -10,9 +11,8 @@ ghost use Rattle.cube_kit.specs.Weighing.{AreWeights};
 use mre_base::{MOST_PLACES, Places, Side};
 use std::marker::Model;
 
-/// A collection of sets of differences: those that have each told number and none that is left. The
-/// undecided numbers are free.
-/// The three sets have no common number, and no call takes memory.
+/// A collection of sets of differences: the sets that contain all told numbers and no left number.
+/// The undecided numbers are free. The three sets have no common number. No call takes memory.
 #[derive(Debug, Drop)]
 pub struct Cube {
     pub told: Places,
@@ -29,7 +29,8 @@ impl Model for Cube {
 
     ghost view = { λ c. record { told = c.told; left = c.left; undecided = c.undecided } };
 
-    ghost invariant = { λ c. IsApart (record { told = c.told; left = c.left; undecided = c.undecided }) };
+    ghost invariant = { λ c.
+        IsApart (record { told = c.told; left = c.left; undecided = c.undecided }) };
 }
 
 // The numbers from 1 to d that a set lacks.
@@ -60,7 +61,7 @@ fn are_apart(one: &Places, two: &Places) -> bool
 }
 
 impl Cube {
-    /// The cube of all sets of the differences 1 to `d`: nothing is decided.
+    /// The cube of all sets of the differences 1 to `d`, with nothing decided.
     pub fn root(d: u32) -> Cube
         requires { d ≤ 256 }
         ensures is { result ≡ root d }
@@ -74,7 +75,7 @@ impl Cube {
         }
     }
 
-    /// The cube whose one member is the set.
+    /// The cube whose only member is the set.
     pub fn single(set: &Places, d: u32) -> Cube
         requires few { d ≤ 256 }
         requires within { IsWithin d set.now }
@@ -104,8 +105,8 @@ impl Cube {
         }
     }
 
-    /// The cube in which an undecided number is told or left. Its members are those of this cube
-    /// that have the number, or lack it.
+    /// The cube with an undecided number told or left. Its members are those of this cube that have
+    /// the number, or those that lack it.
     pub fn decide(&self, place: u32, side: Side) -> Cube
         requires { IsTrue (set.contains self.now.undecided place) }
         ensures is { result ≡ child self.now place side }
@@ -135,13 +136,13 @@ impl Cube {
         self.told.inside(set) && are_apart(&self.left, set)
     }
 
-    /// The member that is before all others: the told numbers alone.
+    /// The member that is before all others: the set of the told numbers.
     pub fn least(&self) -> Places
         ensures is { result ≡ self.now.told }
         ensures member { IsTrue (is_member self.now result) }
         ensures first { (weights : List ℕ) (s : Told) → AreWeights weights
-            → IsWithin (length weights) s →
-            IsTrue (is_member self.now s) → (result ≡ s) ⊎ IsTrue (is_before weights result s) }
+            → IsWithin (length weights) s → IsTrue (is_member self.now s)
+            → (result ≡ s) ⊎ IsTrue (is_before weights result s) }
     {
         self.told.copy()
     }

@@ -1,3 +1,4 @@
+//! The order of sets of differences, computed.
 ghost use Rattle.std.specs.Prelude.{ℕ, ◌≡◌, ◌≤◌, length, take};
 ghost use Rattle.mre_base.specs.Before.{numbers, weight, is_earlier_list, is_before};
 ghost use Rattle.cube_kit.specs.Cubes.{IsWithin};
@@ -21,9 +22,8 @@ pub fn sum_of(weights: &[u32], of: &Places) -> u64
     sum
 }
 
-// Whether the first of two sets with as many numbers from 1 to d has the earlier list: at the first
-// number that one of them lacks, it
-// has the number.
+// Whether the first of two sets with equally many numbers from 1 to d has the earlier list, that
+// is, whether it has the first number that only one of them has.
 fn is_earlier(d: u32, one: &Places, two: &Places) -> bool
     requires few { d ≤ 256 }
     requires as_many { length (numbers d one.now) ≡ length (numbers d two.now) }
@@ -38,8 +38,8 @@ fn is_earlier(d: u32, one: &Places, two: &Places) -> bool
     false
 }
 
-/// Whether the first set is before the second: by its smaller total weight, then by its fewer
-/// numbers, then by its earlier list.
+/// Whether the first set is before the second: by a smaller total weight, then by fewer numbers,
+/// then by an earlier list.
 pub fn is_before(weights: &Weights, one: &Places, two: &Places) -> bool
     ensures is { result ≡ is_before weights.now one.now two.now }
     ensures narrow { (d : ℕ) → d ≤ 256 → IsWithin d one.now → IsWithin d two.now →

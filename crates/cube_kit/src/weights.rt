@@ -1,3 +1,4 @@
+//! Weights of differences.
 ghost use Rattle.std.specs.Prelude.{ℕ, ◌≡◌, ◌≤◌, ◌-◌, length, replicate, slice_index, slice_set};
 ghost use Rattle.std.specs.Prelude.{take};
 ghost use Rattle.mre_base.specs.Before.{numbers, weight};
@@ -10,7 +11,7 @@ use std::marker::Model;
 /// The greatest weight of a difference. The least is 1.
 pub const MOST_WEIGHT: u32 = 1000000;
 
-// The limit is the one of the definitions.
+// The definitions have the same limit.
 const _: () = prove!(MOST_WEIGHT == 1000000);
 
 /// A weight for each difference, seen as the list of the 256 weights from difference 1 on. No call
@@ -72,7 +73,7 @@ impl Weights {
         sum_of(&self.weights, set)
     }
 
-    // How many differences have a weight.
+    // The number of differences that have a weight.
     pub(crate) fn places(&self) -> u32
         ensures places { result ≡ length self.now }
         ensures weights { IsWeighing self.now }

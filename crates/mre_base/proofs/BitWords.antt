@@ -1,4 +1,4 @@
--- The set below a width that words stand for.
+-- The set of numbers below a width whose bits are set.
 use Rattle.std.proofs.Common.{◌≡◌, ◌↔◌, ℕ, zero, suc, ◌+◌, ◌*◌, ◌<◌, ◌≤◌, Bool, true, false, not, ◌||◌, ◌&&◌, List, length, filter, get_or, replicate, nat_eq, refl, sym, ap, ◌∙◌, arith, inl, inr}
 use Rattle.std.proofs.lemmas.Bool.{cases_lt, false≢true}
 use Rattle.std.specs.List.{range_with_len}
@@ -8,7 +8,8 @@ use Rattle.mre_base.specs.Words.{has_bit, bits_below, words_for, words_from, Hol
 use Rattle.mre_base.proofs.SetsBelow.{member, member_below, set_below-put, set_below-take_out, set_below-is_subset, is_subset-set_below}
 use Rattle.mre_base.proofs.ListOrder.{filter-agree, filter-shorter}
 use Rattle.mre_base.proofs.WordLists.{same_words, words_from-bits}
-use Rattle.mre_base.proofs.PlaceWords.{no_bits, set_below-none, same_answer}
+use Rattle.mre_base.proofs.PlaceWords.{no_bits, set_below-none}
+use Rattle.mre_base.proofs.Tests.{same_test}
 
 abbrev seen : ℕ → List ℕ → BitSet
 seen width words = record { width = width; members = bits_below width words }
@@ -36,7 +37,7 @@ pub long_enough : (width : ℕ) (words : List ℕ) → HoldBits width words → 
 long_enough width words holds = let long = holds.long in omega arith
 
 pub bits_below-is_subset : (width : ℕ) (one two : List ℕ) (r : Bool) → HoldBits width one → (r ≡ true ↔ ((k : ℕ) → has_bit one k ≡ true → has_bit two k ≡ true)) → r ≡ set.is_subset (bits_below width one) (bits_below width two)
-bits_below-is_subset width one two r holds says = same_answer r _
+bits_below-is_subset width one two r holds says = same_test r _
     (λ e. set_below-is_subset (has_bit one) (has_bit two) width (says.0 e))
     (λ e. says.1 (λ k set. is_subset-set_below (has_bit one) (has_bit two) width e k (below width one holds k set) set))
 
@@ -55,7 +56,7 @@ numbers_below-bits width words holds =
     filter-shorter (has_bit words) 0 width (64 * length words) (long_enough width words holds) (λ k l. holds.clear k (omega arith))
     ∙ filter-agree (has_bit words) (set.contains (bits_below width words)) 0 width (λ k l m. sym (member (has_bit words) width k (omega arith)))
 
--- the words back from the set
+-- the words are those of the set
 pub words_from-bits_below : (width : ℕ) (words : List ℕ) → HoldBits width words → AreWords words → words_from (set.contains (bits_below width words)) 0 (words_for width) ≡ words
 words_from-bits_below width words holds fits =
     ap (words_from (set.contains (bits_below width words)) 0) (sym holds.long)

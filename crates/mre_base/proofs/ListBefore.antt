@@ -47,7 +47,7 @@ module _ (one two : List ℕ) (i : ℕ) (long : length one ≡ length two) (with
       ap not (list_any-after (has_bit one) (64 * i + bit) (64 * length one) r inside gone says)
       ∙ sym (second_has (has_bit one) (has_bit two) (64 * i + bit) (64 * length one) inside alike gone (has_bit-set two i bit low set))
 
--- words that are the same give the same list
+-- equal words give the same list
 pub same_listed : (one two : List ℕ) → length one ≡ length two → ((j : ℕ) → j < length one → get_or one j 0 ≡ get_or two j 0) → false ≡ is_earlier_list (listed one (64 * length one)) (listed two (64 * length one))
 same_listed one two long h =
     sym (ap (is_earlier_list (listed one (64 * length one))) (sym (filter-agree (has_bit one) (has_bit two) 0 (64 * length one) (λ k _ m. same k (omega arith))))

@@ -5,6 +5,7 @@ use Rattle.std.proofs.lemmas.Bool.Decides.{nat_tests}
 use Rattle.std.proofs.lemmas.List.Elements.{filter-append}
 use Rattle.std.specs.List.{range_with_len, list_any}
 use Rattle.mre_base.specs.Before.{is_earlier_list}
+use Rattle.mre_base.proofs.Tests.{same_test}
 
 -- a range, cut at a number
 pub range-cut : (s k n : ℕ) → k < n → range_with_len s n ≡ range_with_len s k ++ (s + k) ∷ range_with_len (s + k + 1) (n - (k + 1))
@@ -30,7 +31,7 @@ filter-shorter p s zero (suc m) h none = rw (none s (omega arith)) (filter-short
 filter-shorter p s (suc n) zero h none = absurd (omega arith)
 filter-shorter p s (suc n) (suc m) h none = rw (filter-shorter p (s + 1) n m (omega arith) (λ k l. none k (omega arith))) refl
 
--- a common front decides nothing
+-- a common prefix makes no difference
 pub is_earlier_list-front : (xs ys zs : List ℕ) → is_earlier_list (xs ++ ys) (xs ++ zs) ≡ is_earlier_list ys zs
 is_earlier_list-front [] ys zs = refl
 is_earlier_list-front (x ∷ xs) ys zs = rw (eq-eqb x x refl) (is_earlier_list-front xs ys zs)
@@ -39,7 +40,7 @@ pub is_earlier_list-itself : (xs : List ℕ) → is_earlier_list xs xs ≡ false
 is_earlier_list-itself [] = refl
 is_earlier_list-itself (x ∷ xs) = rw (eq-eqb x x refl) (is_earlier_list-itself xs)
 
--- by a number, and then by a test where the numbers are equal
+-- ordered by a number, and by a test where the numbers are equal
 abbrev pub by_number : ℕ → ℕ → Bool → Bool
 by_number n m r = cond (nat_eq n m) r (nat_lt n m)
 
@@ -55,7 +56,7 @@ earlier_trans (x ∷ xs) (y ∷ ys) [] h i = absurd (false≢true i)
 earlier_trans (x ∷ xs) (y ∷ ys) (z ∷ zs) h i =
     number_trans x y z (is_earlier_list xs ys) (is_earlier_list ys zs) (is_earlier_list xs zs) (earlier_trans xs ys zs) h i
 
--- a smaller number against what passes of a later range
+-- a list with a smaller first number, compared with the numbers of a later range that pass
 number_first : (q : ℕ → Bool) (i : ℕ) (xs : List ℕ) (s n : ℕ) → i < s → is_earlier_list (i ∷ xs) (filter q (range_with_len s n)) ≡ list_any q (range_with_len s n)
 number_first q i xs s zero h = refl
 number_first q i xs s (suc n) h =
@@ -88,7 +89,7 @@ module _ (p q : ℕ → Bool) (k n : ℕ) (within : k < n) (below : (j : ℕ) �
   pub first_has : p k ≡ true → q k ≡ false → is_earlier_list (filter p (range_with_len 0 n)) (filter q (range_with_len 0 n)) ≡ list_any q (range_with_len (k + 1) (n - (k + 1)))
   first_has a b = front ∙ rw (a, b) (number_first q k (filter p (range_with_len (k + 1) (n - (k + 1)))) (k + 1) (n - (k + 1)) (omega arith))
 
-  -- the second does
+  -- the second test lets it pass
   pub second_has : p k ≡ false → q k ≡ true → is_earlier_list (filter p (range_with_len 0 n)) (filter q (range_with_len 0 n)) ≡ not (list_any p (range_with_len (k + 1) (n - (k + 1))))
   second_has a b = front ∙ rw (a, b) (number_second p k (filter q (range_with_len (k + 1) (n - (k + 1)))) (k + 1) (n - (k + 1)) (omega arith))
 
@@ -115,18 +116,13 @@ range-list_any p s (suc n) h =
       | false ↦ λ e some. let rest = range-list_any p (s + 1) n some in (rest.0, omega (arith, rest.1), omega (arith, rest.2), rest.3)
     ] refl h
 
--- a test that says whether some number from k on passes, where k doesn't, says whether one of the numbers after k does
+-- where k fails, some number from k on passes exactly if some number after k does
 pub list_any-after : (p : ℕ → Bool) (k n : ℕ) (b : Bool) → k < n → p k ≡ false → (b ≡ true ↔ ((j : ℕ) × (k ≤ j) × (j < n) × (p j ≡ true))) → b ≡ list_any p (range_with_len (k + 1) (n - (k + 1)))
 list_any-after p k n b within failed says =
-    same b (list_any p (range_with_len (k + 1) (n - (k + 1))))
+    same_test b (list_any p (range_with_len (k + 1) (n - (k + 1))))
     (λ e. let found = says.0 e in list_any-range p (k + 1) (n - (k + 1)) found.0 (beyond found.0 found.1 found.3) (let h : found.0 < n = found.2 in omega arith) found.3)
     (λ e. let found = range-list_any p (k + 1) (n - (k + 1)) e in says.1 (found.0, omega (arith, found.1), omega (arith, found.2), found.3))
   where
-    same : (a b : Bool) → (a ≡ true → b ≡ true) → (b ≡ true → a ≡ true) → a ≡ b
-    same true b f g = sym (f refl)
-    same false true f g = g refl
-    same false false f g = refl
-
     beyond : (j : ℕ) → k ≤ j → p j ≡ true → k + 1 ≤ j
     beyond j l h =
         elim (nat_eq j k) as (λ b. nat_eq j k ≡ b → k + 1 ≤ j) [
@@ -134,7 +130,7 @@ list_any-after p k n b within failed says =
           | false ↦ λ e. let apart = eqb-false j k e in omega arith
         ] refl
 
--- ---- how many numbers of a range pass
+-- ---- the number of numbers of a range that pass
 -- a range and the next one
 pub range-append : (s n m : ℕ) → range_with_len s (n + m) ≡ range_with_len s n ++ range_with_len (s + n) m
 range-append s zero m =
@@ -146,7 +142,7 @@ range-append s (suc n) m =
     let b : s + 1 + n ≡ s + suc n = omega arith in
     rw a (ap (λ r. s ∷ r) (range-append (s + 1) n m) ∙ rw b refl)
 
--- the same test of numbers that are one less
+-- a test of numbers, and the same test of their predecessors
 pub filter-shifted : (p q : ℕ → Bool) (s n : ℕ) → ((k : ℕ) → p (suc k) ≡ q k) → length (filter p (range_with_len (suc s) n)) ≡ length (filter q (range_with_len s n))
 filter-shifted p q s zero h = refl
 filter-shifted p q s (suc n) h =

@@ -1,4 +1,4 @@
--- One more item in a loop over a list, and what stands in one.
+-- One more item in a loop over a list, and the items that a list contains.
 use Rattle.std.proofs.Common.{◌≡◌, ℕ, zero, suc, ◌+◌, Bool, ◌||◌, Some, List, [], ◌∷◌, ◌++◌, take, drop, map, refl, sym, ap, ◌∙◌, subst, arith, ◌⊎◌, inl, inr}
 use Rattle.std.specs.Prelude.{slice_get, All, Contains}
 use Rattle.std.specs.List.{list_any}
@@ -23,7 +23,7 @@ module _ {X : Type 0} (xs : List X) (i : ℕ) (x : X) (at : slice_get xs i ≡ S
   pub All_item : (P : X → Type 0) → All P xs → P x
   All_item P all = subst P (get_or_from_slice_get xs i x x at) (all i x (slice_get_within xs i x at))
 
--- ---- what stands in a list
+-- ---- the items that a list contains
 pub contains_cases : {X : Type 0} (x : X) (xs : List X) (y : X) → Contains (x ∷ xs) y → (x ≡ y) ⊎ Contains xs y
 contains_cases x xs y (zero, lt, e) = inl e
 contains_cases x xs y (suc i, lt, e) = inr (i, omega arith, e)

@@ -1,5 +1,5 @@
 -- Items that may be absent.
-use Rattle.std.proofs.Common.{◌≡◌, Option, None, Some, sym, ◌∙◌, subst}
+use Rattle.std.proofs.Common.{◌≡◌, Option, Some, sym, ◌∙◌, subst}
 use Rattle.std.specs.Prelude.{IfSome}
 
 pub same_some : {X : Type 0} (x y : X) → Some x ≡ Some y → x ≡ y

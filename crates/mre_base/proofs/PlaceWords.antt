@@ -1,4 +1,4 @@
--- The set of difference numbers that four words stand for.
+-- The set of difference numbers whose bits are set in four words.
 use Rattle.std.proofs.Common.{◌≡◌, ◌↔◌, ℕ, zero, suc, ◌+◌, ◌-◌, ◌/◌, ◌%◌, ◌<◌, ◌≤◌, Bool, true, false, not, ◌||◌, ◌&&◌, List, [], ◌∷◌, length, filter, get_or, nat_eq, nat_lt, refl, sym, ap, ◌∙◌, arith, inl, inr}
 use Rattle.std.proofs.lemmas.Bool.{and_parts, cases_lt, ne_eqb, false≢true}
 use Rattle.std.proofs.lemmas.Bool.Decides.{nat_tests}
@@ -10,6 +10,7 @@ use Rattle.mre_base.specs.Before.{count_of}
 use Rattle.mre_base.specs.Sets.{set_below, is_same_set, ArePlaces}
 use Rattle.mre_base.specs.SameSets.{same_members, same_from_is_same_set, is_same_set-itself}
 use Rattle.mre_base.specs.Words.{has_bit, has_place, places_in, words_from, AreWords}
+use Rattle.mre_base.proofs.Tests.{same_test}
 use Rattle.mre_base.proofs.SetsBelow.{contains-set_below, member, member_below, set_below-put, set_below-take_out, set_below-is_subset, is_subset-set_below}
 use Rattle.mre_base.proofs.ListOrder.{filter-agree, filter-shifted}
 use Rattle.mre_base.proofs.WordLists.{same_words, words_from-bits, has_bit-past}
@@ -70,17 +71,12 @@ places_in-take_out old new (suc i) l h = set_below-take_out (has_place old) (has
     each zero = rw (ne_eqb 0 (suc i) (λ e. absurd (omega arith))) refl
     each (suc k) = h k ∙ ap (λ b. not b && has_bit old k) (one_less k i)
 
-pub same_answer : (a b : Bool) → (a ≡ true → b ≡ true) → (b ≡ true → a ≡ true) → a ≡ b
-same_answer true b f g = sym (f refl)
-same_answer false true f g = g refl
-same_answer false false f g = refl
-
--- where a word list is 256 bits long, no further bit is set
+-- no bit beyond the 256 of four words is set
 no_more : (words : List ℕ) → length words ≡ 4 → (k : ℕ) → has_bit words k ≡ true → k < 256
 no_more words long k set = elim (cases_lt k 256) [ inl l ↦ l | inr l ↦ absurd (false≢true (sym (has_bit-past words k (omega arith)) ∙ set)) ]
 
 pub places_in-is_subset : (one two : List ℕ) (r : Bool) → length one ≡ 4 → (r ≡ true ↔ ((k : ℕ) → has_bit one k ≡ true → has_bit two k ≡ true)) → r ≡ set.is_subset (places_in one) (places_in two)
-places_in-is_subset one two r long says = same_answer r _
+places_in-is_subset one two r long says = same_test r _
     (λ e. set_below-is_subset (has_place one) (has_place two) 257 (up (says.0 e)))
     (λ e. says.1 (λ k set. is_subset-set_below (has_place one) (has_place two) 257 e (suc k) (let m = no_more one long k set in omega arith) set))
   where
@@ -93,7 +89,7 @@ pub places_in-ArePlaces : (words : List ℕ) → ArePlaces (places_in words)
 places_in-ArePlaces words zero h = absurd (false≢true (and_parts (nat_lt 0 257) false (sym (contains-set_below (has_place words) 257 0) ∙ h)).1)
 places_in-ArePlaces words (suc k) h = let m = member_below (has_place words) 257 (suc k) h in (omega arith, omega arith)
 
--- how many there are
+-- the number of members
 pub places_in-count_of : (words : List ℕ) → length (filter (has_bit words) (range_with_len 0 256)) ≡ count_of (places_in words)
 unfolding count_of
 places_in-count_of words =
@@ -106,11 +102,11 @@ places_in-same one two long long' fits fits' e = same_words one two (omega arith
     sym (member (has_place one) 257 (suc k) (omega arith)) ∙ ap (λ s. set.contains s (suc k)) e ∙ member (has_place two) 257 (suc k) (omega arith))
 
 pub places_in-eq : (one two : List ℕ) (r : Bool) → length one ≡ 4 → length two ≡ 4 → AreWords one → AreWords two → (r ≡ true → one ≡ two) → (one ≡ two → r ≡ true) → r ≡ is_same_set (places_in one) (places_in two)
-places_in-eq one two r long long' fits fits' f g = same_answer r _
+places_in-eq one two r long long' fits fits' f g = same_test r _
     (λ e. ap (λ words. is_same_set (places_in one) (places_in words)) (sym (f e)) ∙ is_same_set-itself (places_in one))
     (λ e. g (places_in-same one two long long' fits fits' (same_from_is_same_set _ _ e)))
 
--- the words back from the set
+-- the words are those of the set
 pub words_from-places_in : (words : List ℕ) → length words ≡ 4 → AreWords words → words_from (λ k. set.contains (places_in words) (k + 1)) 0 4 ≡ words
 words_from-places_in words long fits =
     ap (words_from (λ k. set.contains (places_in words) (k + 1)) 0) (sym long)

@@ -8,24 +8,19 @@ use Rattle.std.specs.Cmp.{IsEquivalence, decided}
 use Rattle.std.proofs.lemmas.Map.Views.{list_any-from_Contains, Contains-from_any}
 use Rattle.std.proofs.lemmas.List.Quantifiers.{position-Some}
 use Rattle.std.proofs.lemmas.Option.{slice_get-get_or}
+use Rattle.mre_base.proofs.Tests.{beq_same}
 use Rattle.mre_base.specs.Sets.{is_same_set, is_same_bit_set}
 use Rattle.mre_base.specs.SameSets.{same_from_is_same_set, same_from_is_same_bit_set, is_same_set-itself, is_same_bit_set-itself}
 use Rattle.mre_base.specs.declared.node.Node.{Node}
 use Rattle.mre_base.specs.declared.node.Node.TheVariants.{Split, Probe, State}
 use Rattle.mre_base.specs.contracts.node.NodePartialEq.TheImpl.{eq-value}
 
-same_bool : (u v : Bool) → beq u v ≡ true → u ≡ v
-same_bool true true h = refl
-same_bool true false h = absurd (false≢true h)
-same_bool false true h = absurd (false≢true h)
-same_bool false false h = refl
-
 pub same_from_eq : (a b : Node) → (eq-value).it a b ≡ true → a ≡ b
 same_from_eq (Split u t l p) (Split v s m q) h =
     let one = and_parts (beq u v) (is_same_set t s && (is_same_set l m && nat_eq p q)) h in
     let two = and_parts (is_same_set t s) (is_same_set l m && nat_eq p q) one.1 in
     let three = and_parts (is_same_set l m) (nat_eq p q) two.1 in
-    (λ i. Split (same_bool u v one.0 i) (same_from_is_same_set t s two.0 i) (same_from_is_same_set l m three.0 i) (eqb-true p q three.1 i))
+    (λ i. Split (beq_same u v one.0 i) (same_from_is_same_set t s two.0 i) (same_from_is_same_set l m three.0 i) (eqb-true p q three.1 i))
 same_from_eq (Probe t l) (Probe s m) h =
     let both = and_parts (is_same_set t s) (is_same_set l m) h in
     (λ i. Probe (same_from_is_same_set t s both.0 i) (same_from_is_same_set l m both.1 i))

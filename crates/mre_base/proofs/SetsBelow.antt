@@ -1,4 +1,4 @@
--- What stands in a set that is given by a test, and what a change of the test does to it.
+-- The members of a set that is given by a test, and what a change of the test does to it.
 use Rattle.std.proofs.Common.{◌≡◌, ℕ, zero, suc, ◌<◌, Bool, true, false, not, ◌||◌, ◌&&◌, nat_eq, nat_lt, if◌then◌else◌, refl, sym, ap, ◌∙◌, arith, ◌⊎◌, ⊎_elim, inl, inr}
 use Rattle.std.proofs.lemmas.Bool.{or_left, or_right, or_cases, eqb-true, eq-eqb, ne_eqb, lt-ltb, le-ltb, ltb-true, cases_order, and_parts}
 use Rattle.std.specs.Ordering.{nat_cmp, eq_by_cmp}
@@ -29,15 +29,6 @@ insert_cases s k q there =
     (or_cases (nat_eq q k) (set.contains s q) (sym (contains-insert_nat s k q) ∙ there))
 
 -- ---- a set that is given by a test
-or_lt : (q n : ℕ) (b : Bool) → (nat_eq q n || nat_lt q n) ≡ nat_lt q (suc n)
-or_lt q n b = elim (cases_order q n) [
-  | inl e ↦ rw (eq-eqb q n e, lt-ltb q (suc n) (omega arith)) refl
-  | inr o ↦ elim o [
-    | inl l ↦ rw (ne_eqb q n (λ e. absurd (omega arith)), lt-ltb q n l, lt-ltb q (suc n) (omega arith)) refl
-    | inr l ↦ rw (ne_eqb q n (λ e. absurd (omega arith)), le-ltb q n (omega arith), le-ltb q (suc n) (omega arith)) refl
-  ]
-]
-
 passing : (p : ℕ → Bool) (n q : ℕ) → p n ≡ true → (nat_eq q n || (nat_lt q n && p q)) ≡ (nat_lt q (suc n) && p q)
 passing p n q passed = elim (cases_order q n) [
   | inl e ↦ rw (eq-eqb q n e, lt-ltb q (suc n) (omega arith)) (sym (ap p e ∙ passed))
@@ -71,13 +62,6 @@ member p n q h = contains-set_below p n q ∙ rw (lt-ltb q n h) refl
 pub member_below : (p : ℕ → Bool) (n q : ℕ) → set.contains (set_below p n) q ≡ true → q < n
 member_below p n q h = ltb-true q n (and_parts (nat_lt q n) (p q) (sym (contains-set_below p n q) ∙ h)).0
 
-pub set_below-agree : (p r : ℕ → Bool) (n : ℕ) → ((k : ℕ) → k < n → p k ≡ r k) → set_below p n ≡ set_below r n
-set_below-agree p r n h = same_members _ _ (λ q. contains-set_below p n q ∙ agree q (nat_lt q n) refl ∙ sym (contains-set_below r n q))
-  where
-    agree : (q : ℕ) (b : Bool) → nat_lt q n ≡ b → (nat_lt q n && p q) ≡ (nat_lt q n && r q)
-    agree q true e = rw e (h q (ltb-true q n e))
-    agree q false e = rw e refl
-
 or_within : (a b l : Bool) → (a ≡ true → l ≡ true) → (l && (a || b)) ≡ (a || (l && b))
 or_within true b l h = rw (h refl) refl
 or_within false b l h = refl
@@ -101,7 +85,7 @@ set_below-take_out p r n i h = same_members _ _ (λ q.
     ∙ not_within (nat_eq q i) (p q) (nat_lt q n)
     ∙ ap (λ b. not (nat_eq q i) && b) (sym (contains-set_below p n q)) ∙ sym (contains-remove_nat (set_below p n) i q))
 
--- ---- subsets, and sets that are the same
+-- ---- subsets and equal sets
 pub set_below-is_subset : (p r : ℕ → Bool) (n : ℕ) → ((k : ℕ) → p k ≡ true → r k ≡ true) → set.is_subset (set_below p n) (set_below r n) ≡ true
 set_below-is_subset p r n h = set.contains-is_subset nat_cmp_total _ _ (λ q one.
     let both = and_parts (nat_lt q n) (p q) (sym (contains-set_below p n q) ∙ one) in

@@ -1,8 +1,9 @@
--- Tests and what follows from them.
+-- Boolean tests: the laws of `not`, `&&` and `||`, and equality.
 use Rattle.std.proofs.Common.{◌≡◌, Bool, true, false, not, ◌&&◌, ◌||◌, refl, sym}
 use Rattle.std.proofs.lemmas.Bool.{true≢false, false≢true}
+use Rattle.std.proofs.Math.Bool.{beq}
 
--- two tests that give each other are equal
+-- two tests of which each implies the other are equal
 pub same_test : (a b : Bool) → (a ≡ true → b ≡ true) → (b ≡ true → a ≡ true) → a ≡ b
 same_test true b there back = sym (there refl)
 same_test false true there back = back refl
@@ -30,3 +31,9 @@ and_true false = refl
 
 pub all_four : (a b c d : Bool) → a ≡ true → b ≡ true → c ≡ true → d ≡ true → (a && b && c && d) ≡ true
 all_four a b c d one two three four = rw (one, two, three, four) refl
+
+pub beq_same : (a b : Bool) → beq a b ≡ true → a ≡ b
+beq_same true true h = refl
+beq_same true false h = absurd (false≢true h)
+beq_same false true h = absurd (false≢true h)
+beq_same false false h = refl

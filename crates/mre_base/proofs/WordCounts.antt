@@ -1,4 +1,4 @@
--- How many bits of words are set: word by word, the ones of each.
+-- The number of bits set in words, counted word by word.
 use Rattle.std.proofs.Common.{◌≡◌, ℕ, zero, suc, ◌+◌, ◌*◌, ◌/◌, ◌%◌, ◌^◌, ◌<◌, ◌≤◌, Bool, List, ◌∷◌, length, length-append, filter, get_or, nat_eq, if◌then◌else◌, refl, sym, ap, ◌∙◌, arith}
 use Rattle.std.proofs.lemmas.List.Elements.{filter-append}
 use Rattle.std.proofs.lemmas.Nat.Bits.{bit_at-suc, bit_at_lowest}
@@ -9,7 +9,7 @@ use Rattle.std.specs.Prelude.{count_ones}
 use Rattle.mre_base.specs.Words.{has_bit}
 use Rattle.mre_base.proofs.ListOrder.{range-append}
 
--- a test that reads the bits of a number lets as many numbers pass as it has ones
+-- a test that reads the bits of a number lets as many numbers pass as that number has ones
 pub length-filter-ones : (p : ℕ → Bool) (s m w : ℕ) → w < 2 ^ m → ((j : ℕ) → j < m → p (s + j) ≡ nat_eq (bit_at w j) 1) → length (filter p (range_with_len s m)) ≡ count_ones w
 length-filter-ones p s zero w fits h =
     let none : count_ones w ≤ 0 = ones-le 0 w fits in

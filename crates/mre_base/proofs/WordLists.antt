@@ -1,4 +1,4 @@
--- Words against the sets that their bits stand for: subsets, equality, and the words back from the set.
+-- Words and the sets of their bits: subsets, equality, and the words of a set.
 use Rattle.std.proofs.Common.{◌≡◌, ◌≢◌, ℕ, zero, suc, ◌+◌, ◌-◌, ◌*◌, ◌/◌, ◌%◌, ◌^◌, ◌<◌, ◌≤◌, min, Bool, true, false, List, [], ◌∷◌, length, get_or, nat_eq, if◌then◌else◌, add_assoc, zero-add, refl, sym, ap, ◌∙◌, arith, inl, inr, bit_and, bit_xor}
 use Rattle.std.proofs.lemmas.Bool.{eq-eqb, eqb-true, cases_lt, false≢true}
 use Rattle.std.proofs.lemmas.List.{get_or_past}
@@ -9,7 +9,7 @@ use Rattle.std.specs.Int.{bit_at, bit_not, trailing_zeros, w64}
 use Rattle.mre_base.specs.Words.{has_bit, word_from, words_from, AreWords}
 
 -- ---- one word
--- no bit of a word is set that isn't set in another
+-- each bit that is set in one word is set in another
 pub within_word : (a b : ℕ) → a < 2 ^ 64 → b < 2 ^ 64 → ((i : ℕ) → i < 64 → bit_at a i ≡ 1 → bit_at b i ≡ 1) → bit_and a (bit_not w64 b) ≡ 0
 within_word a b fits fits' h = same_from_bits (bit_and a (bit_not w64 b)) 0 each
   where
@@ -56,7 +56,7 @@ pub bits_within : (one two : List ℕ) → AreWords one → AreWords two → ((k
 bits_within one two fits fits' h w = within_word (get_or one w 0) (get_or two w 0) (fits w) (fits' w) (λ i l e.
     eqb-true _ _ (sym (split two w i l) ∙ h (64 * w + i) (split one w i l ∙ eq-eqb _ _ e)))
 
--- ---- the words back from a test of the numbers
+-- ---- the words of a test
 pub word_from-lt : (p : ℕ → Bool) (first n : ℕ) → word_from p first n < 2 ^ n
 unfolding word_from
 word_from-lt p first zero = omega arith
@@ -69,10 +69,6 @@ word_from-lt p first (suc n) =
 
 abbrev one_if : Bool → ℕ
 one_if b = if b then 1 else 0
-
-one_if-one : (b : Bool) → nat_eq (one_if b) 1 ≡ b
-one_if-one true = refl
-one_if-one false = refl
 
 pub bit_at-word_from : (p : ℕ → Bool) (first n i : ℕ) → i < n → bit_at (word_from p first n) i ≡ one_if (p (first + i))
 unfolding word_from
@@ -88,7 +84,7 @@ bit_at-word_from p first (suc n) i h = elim (cases_lt i n) [
     top : (b : Bool) (n : ℕ) → bit_at (one_if b) (n - n) ≡ one_if b
     top b n = let z : n - n ≡ 0 = omega arith in rw z (elim b as (λ b. bit_at (one_if b) 0 ≡ one_if b) [ true ↦ refl | false ↦ refl ])
 
--- a word is got back from the test of its bits
+-- a word is the word of the test of its bits
 pub word_from-bits : (p : ℕ → Bool) (first w : ℕ) → w < 2 ^ 64 → ((i : ℕ) → i < 64 → p (first + i) ≡ nat_eq (bit_at w i) 1) → word_from p first 64 ≡ w
 word_from-bits p first w fits h = same_from_bits (word_from p first 64) w each
   where
@@ -103,7 +99,7 @@ word_from-bits p first w fits h = same_from_bits (word_from p first 64) w each
       | inr l ↦ bit_at_above (word_from p first 64) 64 i (word_from-lt p first 64) l ∙ sym (bit_at_above w 64 i fits l)
     ]
 
--- a list of words is got back from the test of its bits
+-- a list of words is the list of the test of its bits
 pub words_from-bits : (p : ℕ → Bool) (first : ℕ) (words : List ℕ) → AreWords words → ((k : ℕ) → k < 64 * length words → p (first + k) ≡ has_bit words k) → words_from p first (length words) ≡ words
 unfolding words_from
 words_from-bits p first [] fits h = refl

@@ -10,7 +10,7 @@ use Rattle.std.specs.FinSet as set
 abbrev pub numbers : ℕ → set.FinSet nat_cmp → List ℕ
 numbers d told = filter (set.contains told) (range_with_len 1 d)
 
--- how many of the numbers that a difference may have, 1 to 256, are in a set
+-- the number of differences, from 1 to 256, in a set
 unfoldable pub count_of : set.FinSet nat_cmp → ℕ
 count_of told = length (numbers 256 told)
 
@@ -18,24 +18,24 @@ count_of told = length (numbers 256 told)
 abbrev pub weight : List ℕ → List ℕ → ℕ
 weight weights ks = sum_by (λ k. slice_index weights (k - 1)) ks
 
--- the lists differ at some place, and at the first such place the first list has the smaller
--- number, or is at its end
+-- the lists differ at some place, and at the first place where they do the first list has the
+-- smaller number or has ended
 abbrev pub is_earlier_list : List ℕ → List ℕ → Bool
 is_earlier_list [] [] = false
 is_earlier_list [] (y ∷ ys) = true
 is_earlier_list (x ∷ xs) [] = false
 is_earlier_list (x ∷ xs) (y ∷ ys) = if nat_eq x y then is_earlier_list xs ys else nat_lt x y
 
--- fewer numbers, or as many and the earlier list
+-- fewer numbers, or equally many and the earlier list
 abbrev pub is_smaller : List ℕ → List ℕ → Bool
 is_smaller xs ys =
     if nat_eq (length xs) (length ys) then is_earlier_list xs ys else nat_lt (length xs) (length ys)
 
--- a smaller total weight, or the same weight and smaller
+-- a smaller total weight, or an equal weight and a smaller list
 abbrev pub is_lighter : List ℕ → List ℕ → List ℕ → Bool
 is_lighter weights xs ys =
-    if nat_eq (weight weights xs) (weight weights ys) then is_smaller xs ys else nat_lt
-    (weight weights xs) (weight weights ys)
+    if nat_eq (weight weights xs) (weight weights ys) then is_smaller xs ys
+    else nat_lt (weight weights xs) (weight weights ys)
 
 -- one set of differences is before another
 abbrev pub is_before : List ℕ → set.FinSet nat_cmp → set.FinSet nat_cmp → Bool

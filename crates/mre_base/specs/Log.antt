@@ -1,4 +1,4 @@
--- The log of a search: a limit and distinct nodes, and what each answer of a push says.
+-- The log of a search: a limit and distinct nodes, and the meaning of each answer of a push.
 use Rattle.std.specs.Prelude.{◌≡◌, ◌<◌, ◌≤◌, ◌^◌, ℕ, List, [], ◌∷◌, ◌++◌, length, slice_get, Some}
 use Rattle.std.specs.Prelude.{Result, Ok, Err, Contains, refl}
 use Rattle.std.specs.Coded.{Coded, code_by, coded×, coded_ℕ, coded_list}
@@ -18,15 +18,14 @@ log_code =
     (λ log. (log.limit, log.nodes)) (λ pair. record { limit = pair.0; nodes = pair.1 })
     (λ _. refl)
 
--- there are at most as many nodes as the limit says, and it is a number of 32 bits
+-- there are at most as many nodes as the limit, which fits in 32 bits
 pub record IsWithinLimit (limit : ℕ) (nodes : List Node) : Type 0 where
   pub few : length nodes ≤ limit
   pub fits : limit < 2 ^ 32
 
--- Ok: the node is new, has room, and stands at the end; There: it stands at the place; Full: it
--- isn't there, and the
--- log has as many nodes as its limit; NoMemory: it isn't there, and has room. Only Ok changes the
--- log
+-- Ok: the node is new, there is room, and the node is put at the end. There: the node is at this
+-- place. Full: the node is new, and the log has as many nodes as its limit. NoMemory: the node is
+-- new, and there is room. Only Ok changes the log
 abbrev pub PushAnswers : Log → Log → Node → Result ℕ PushStop → Type 0
 PushAnswers old new node (Ok place) =
     ¬ Contains old.nodes node × (length old.nodes < old.limit) × (place ≡ length old.nodes)

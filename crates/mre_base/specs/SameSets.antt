@@ -1,5 +1,5 @@
--- The test of equality of two sets decides it: the laws that equality and hash of the types of sets
--- rest on.
+-- The test of whether two sets are equal decides it: the laws on which `Eq` and `Hash` of the types
+-- of sets rest.
 use Rattle.std.specs.Prelude.{◌≡◌, ℕ, Bool, true, false, refl, nat_eq}
 use Rattle.std.proofs.Common.{sym, ap, ◌∙◌}
 use Rattle.std.proofs.lemmas.Bool.{and_parts, eqb-true, eq-eqb}

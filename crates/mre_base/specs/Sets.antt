@@ -1,5 +1,5 @@
--- Finite sets of numbers: those below a bound that pass a test, a set's numbers in ascending order,
--- and when two sets are one.
+-- Finite sets of numbers: the set of the numbers below a bound that pass a test, a set's numbers in
+-- ascending order, and the test of whether two sets are equal.
 use Rattle.std.specs.Prelude.{ℕ, zero, suc, ◌<◌, ◌≤◌, Bool, ◌&&◌, IsTrue, nat_eq, if◌then◌else◌}
 use Rattle.std.specs.Prelude.{List, filter, refl}
 use Rattle.std.specs.Coded.{Coded, code_by, coded×, coded_ℕ}

@@ -1,5 +1,5 @@
--- Sets of numbers as the bits of words of 64 bits: bit k stands in word k / 64, at place k % 64
--- from the lowest.
+-- Sets of numbers as the bits of words of 64 bits: bit k is in word k / 64, at place k % 64 from
+-- the lowest.
 use Rattle.std.specs.Prelude.{◌≡◌, ◌≤◌, ◌++◌, length, ℕ, zero, suc, ◌+◌, ◌*◌, ◌/◌, ◌%◌, ◌^◌, ◌<◌}
 use Rattle.std.specs.Prelude.{Bool, false, List, [], ◌∷◌, slice_index, nat_eq, if◌then◌else◌}
 use Rattle.std.specs.Int.{bit_at}
@@ -25,19 +25,18 @@ has_place words (suc k) = has_bit words k
 abbrev pub places_in : List ℕ → set.FinSet nat_cmp
 places_in words = set_below (has_place words) 257
 
--- the number whose lowest bits say, one after another, which of the next so many numbers from one
--- on pass
+-- the number of n bits whose bit i says whether the number `first + i` passes
 unfoldable pub word_from : (ℕ → Bool) → ℕ → ℕ → ℕ
 word_from passes first zero = 0
 word_from passes first (suc n) =
     (if passes (first + n) then 1 else 0) * 2 ^ n + word_from passes first n
 
--- so many words of 64 bits that say which numbers from one on pass
+-- n words of 64 bits whose bit i says whether the number `first + i` passes
 unfoldable pub words_from : (ℕ → Bool) → ℕ → ℕ → List ℕ
 words_from passes first zero = []
 words_from passes first (suc n) = word_from passes first 64 ∷ words_from passes (first + 64) n
 
--- how many words have this many bits
+-- the number of words that a width needs
 abbrev pub words_for : ℕ → ℕ
 words_for width = (width + 63) / 64
 
@@ -45,7 +44,7 @@ words_for width = (width + 63) / 64
 abbrev pub AreWords : List ℕ → Type 0
 AreWords words = (i : ℕ) → slice_index words i < 2 ^ 64
 
--- the words are as many as a width needs, and no bit from the width on is set
+-- there are as many words as a width needs, and no bit from the width on is set
 pub record HoldBits (width : ℕ) (words : List ℕ) : Type 0 where
   pub long : length words ≡ words_for width
   pub clear : (k : ℕ) → width ≤ k → has_bit words k ≡ false

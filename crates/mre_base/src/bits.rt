@@ -1,3 +1,4 @@
+//! Sets of numbers below a width, as bits.
 ghost use Rattle.std.specs.Prelude.{◌≡◌, ◌<◌, ◌≤◌, ◌↔◌, IsTrue, IsOk, IfOk};
 ghost use Rattle.std.specs.FinSet as set;
 ghost use Rattle.mre_base.specs.Before.{is_earlier_list};
@@ -9,7 +10,8 @@ use std::alloc::Global;
 use std::hash::{Hash, Hasher};
 use std::marker::Model;
 
-/// A width and a set of numbers below it. Up to a width of 128 the words lie in the value itself.
+/// A width and a set of numbers below it. Up to a width of 128 the words are kept in the value
+/// itself.
 #[derive(Debug)]
 pub struct Bits {
     width: u32,
@@ -24,7 +26,10 @@ impl Model for Bits {
 
     ghost coded = { bit_set_code };
 
-    ghost view = { λ bits. record { width = bits.width; members = bits_below bits.width bits.words.items } };
+    ghost view = { λ bits. record {
+      width = bits.width;
+      members = bits_below bits.width bits.words.items;
+    } };
 
     ghost invariant = { λ bits. HoldBits bits.width bits.words.items };
 }
@@ -36,7 +41,7 @@ impl Drop for Bits {
 }
 
 impl Bits {
-    /// The set without numbers.
+    /// The empty set of this width.
     pub fn empty(alloc: Global, width: u32) -> Result<Bits, NoMemory>
         ensures ok { IfOk result (λ made. made ≡ record { width = width; members = set.empty }) }
         ensures succeeds { width ≤ 128 → IsOk result }
@@ -56,7 +61,7 @@ impl Bits {
         })
     }
 
-    /// Makes this set the other one.
+    /// Makes this set equal to the other one.
     pub fn copy_from(&mut self, other: &Bits)
         requires { self.old.width ≡ other.now.width }
         ensures { self.new ≡ other.now }
@@ -108,9 +113,8 @@ impl Bits {
         words::is_same(self.words.as_slice(), other.words.as_slice())
     }
 
-    /// Whether the ascending list of this set's numbers is before that of the other's: compared
-    /// place by place, a proper
-    /// prefix first.
+    /// Whether the ascending list of this set's numbers is before the other's: compared place by
+    /// place, a proper prefix first.
     pub fn list_before(&self, other: &Bits) -> bool
         requires { self.now.width ≡ other.now.width }
         ensures { result ≡ is_earlier_list (numbers_below self.now.width self.now.members)
@@ -147,7 +151,8 @@ impl Hash for Bits {
 
     ghost hash_input = { hash_of_bits };
 
-    ghost respects_eq = { λ one two same. ap hash_of_bits (same_from_is_same_bit_set one two same) };
+    ghost respects_eq = { λ one two same.
+        ap hash_of_bits (same_from_is_same_bit_set one two same) };
 
     fn hash<H: Hasher>(&self, state: &mut H) {
         state.write_u32(self.width);

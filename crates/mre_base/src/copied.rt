@@ -1,11 +1,12 @@
+//! Values that can be copied into memory of their own.
 ghost use Rattle.std.specs.Prelude.{◌≡◌, IfOk};
 
 use crate::{List, NoMemory, Text};
 use std::alloc::Global;
 
-/// What can be had once more, in memory of its own.
+/// A value that can be copied into memory of its own.
 pub trait Copied: Drop {
-    /// The same once more. `NoMemory` leaves what was there.
+    /// A copy. After `NoMemory` the value is unchanged.
     fn copied(&self, alloc: Global) -> Result<Self, NoMemory>
         ensures ok { IfOk result (λ made. made ≡ self.now) };
 }

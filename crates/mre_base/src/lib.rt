@@ -1,4 +1,4 @@
-//! The sets, lists, texts and logs that every crate of the explainer stands on.
+//! The sets, lists, texts and logs on which every crate of the explainer rests.
 #![tactic(auto)]
 
 mod bits;

@@ -1,3 +1,4 @@
+//! A growing list whose type may occur in the type of its own items.
 ghost use Rattle.std.specs.Prelude.{◌≡◌, ◌<◌, ◌↔◌, IsTrue, [], ◌∷◌, ◌++◌, length, slice_get, Some};
 ghost use Rattle.std.specs.Prelude.{IfOk, OnOk, OnErr};
 ghost use Rattle.std.specs.Borrow.{sem};
@@ -6,8 +7,8 @@ use crate::NoMemory;
 use std::alloc::Global;
 use std::marker::Model;
 
-/// A growing list, seen as the list of its items. It may stand inside the type of its own items, as
-/// in a tree.
+/// A growing list, seen as the list of its items. It may occur in the type of its own items, as in
+/// a tree.
 #[derive(Debug)]
 pub struct List<T> {
     items: Vec<T>,
@@ -33,7 +34,7 @@ impl<T> Model for List<T> {
 impl<T> List<T> {
     ghost use Rattle.mre_base.specs.Lending.{LendsItem};
 
-    /// The list without items. It takes no memory until the first push.
+    /// The empty list. It takes no memory until the first push.
     pub fn empty(alloc: Global) -> List<T>
         ensures { result ≡ [] }
     {
@@ -62,7 +63,7 @@ impl<T> List<T> {
         &self.items[place]
     }
 
-    /// The item at a place, counted from 0, to be changed where it stands.
+    /// The item at a place, counted from 0, to be changed in the list.
     pub fn item_mut(&mut self, place: usize) -> &mut T
         requires { place < length self.old }
         ensures* writes_back { sem 𝓛 (LendsItem T.row self.entry place result) }
@@ -73,12 +74,12 @@ impl<T> List<T> {
 }
 
 impl<T: Drop> List<T> {
-    /// Puts an item at the end. On a refusal the item is dropped and the list stays as it was.
+    /// Puts an item at the end. After an `Err` the item is dropped and the list is unchanged.
     pub fn push(&mut self, item: T) -> Result<(), NoMemory>
         ensures ok { OnOk result (self.new ≡ self.old ++ item ∷ []) }
         ensures err { OnErr result (self.new ≡ self.old) }
     {
-        // Most lists of a text have one item, and a first push would make room for four.
+        // Most lists of a text have one item, while a first push makes room for four.
         if self.items.capacity() == 0 {
             self.items.reserve_exact(1)?;
         }

@@ -1,3 +1,4 @@
+//! The log of a search: distinct nodes, up to a limit.
 ghost use Rattle.std.specs.Prelude.{◌≡◌, ◌≢◌, ◌<◌, ◌≤◌, [], ◌∷◌, ◌++◌, Some, length, slice_get};
 ghost use Rattle.std.specs.Prelude.{Contains, AllPairs, IsTrue, ◌↔◌, IfSome, IfNone, OnOk, OnErr};
 
@@ -16,9 +17,10 @@ pub struct NodeLog {
 /// Why a node was not pushed. The log is unchanged.
 #[derive(Debug, Drop)]
 pub enum PushStop {
-    /// The node stands in the log, at this place, counted from 0.
+    /// The node is in the log, at this place, counted from 0.
     There { place: u32 },
-    /// The node isn't there, and the log has as many nodes as its limit. The node comes back.
+    /// The node isn't in the log, and the log has as many nodes as its limit. The node is given
+    /// back.
     Full { node: Node },
     NoMemory,
 }
@@ -41,7 +43,7 @@ impl Model for NodeLog {
 impl NodeLog {
     ghost use Rattle.mre_base.specs.Log.{PushAnswers};
 
-    /// The log without nodes. It takes no memory until the first push.
+    /// The empty log. It takes no memory until the first push.
     pub fn new(alloc: Global, limit: u32) -> NodeLog
         ensures { result ≡ record { limit = limit; nodes = [] } }
     {
@@ -51,7 +53,7 @@ impl NodeLog {
         }
     }
 
-    /// Puts a node at the end, and gives its place, counted from 0.
+    /// Puts a node at the end and gives its place, counted from 0.
     pub fn push(&mut self, node: Node) -> Result<u32, PushStop>
         ensures { PushAnswers self.old self.new node result }
     {
@@ -70,7 +72,7 @@ impl NodeLog {
         }
     }
 
-    /// How many nodes there are.
+    /// The number of nodes.
     pub fn len(&self) -> u32
         ensures len { result ≡ length self.now.nodes }
         ensures within { length self.now.nodes ≤ self.now.limit }

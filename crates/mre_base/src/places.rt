@@ -1,3 +1,4 @@
+//! Sets of difference numbers.
 ghost use Rattle.std.specs.Prelude.{◌≡◌, ◌<◌, ◌≤◌};
 ghost use Rattle.std.specs.FinSet as set;
 ghost use Rattle.mre_base.specs.Before.{count_of};
@@ -7,7 +8,7 @@ use crate::words;
 use std::hash::{Hash, Hasher};
 use std::marker::Model;
 
-/// The greatest number that a difference may have. They are counted from 1.
+/// The greatest number that a difference may have. Differences are counted from 1.
 pub const MOST_PLACES: u32 = 256;
 
 const _: () = prove!(MOST_PLACES == 256);
@@ -32,7 +33,7 @@ impl Model for Places {
 }
 
 impl Places {
-    /// The set without numbers.
+    /// The empty set.
     pub fn none() -> Places
         ensures { result ≡ set.empty }
     {
@@ -47,7 +48,7 @@ impl Places {
         words::has(&self.words, place - 1)
     }
 
-    /// The set with one number more, or the same set where it has the number.
+    /// The set with this number added, or the same set if it has the number.
     pub fn with(&self, place: u32) -> Places
         requires low { 1 ≤ place }
         requires high { place ≤ 256 }
@@ -58,7 +59,7 @@ impl Places {
         Places { words }
     }
 
-    /// The set without one number.
+    /// The set without this number.
     pub fn without(&self, place: u32) -> Places
         requires low { 1 ≤ place }
         requires high { place ≤ 256 }
@@ -76,7 +77,7 @@ impl Places {
         words::is_subset(&self.words, &other.words)
     }
 
-    /// How many numbers the set has.
+    /// The number of members.
     pub fn count(&self) -> u32
         ensures count { result ≡ count_of self.now }
         ensures numbers { ArePlaces self.now }
@@ -117,9 +118,12 @@ impl Hash for Places {
     ghost use Rattle.mre_base.specs.SameSets.{same_from_is_same_set};
     ghost use Rattle.std.proofs.Common.{ap};
 
-    ghost hash_input = { λ members. fed.slice fed.u64 (words_from (λ k. set.contains members (k + 1)) 0 4) };
+    ghost hash_input = { λ members.
+        fed.slice fed.u64 (words_from (λ k. set.contains members (k + 1)) 0 4) };
 
-    ghost respects_eq = { λ one two same. ap (λ members. fed.slice fed.u64 (words_from (λ k. set.contains members (k + 1)) 0 4)) (same_from_is_same_set one two same) };
+    ghost respects_eq = { λ one two same.
+        ap (λ members. fed.slice fed.u64 (words_from (λ k. set.contains members (k + 1)) 0 4))
+        (same_from_is_same_set one two same) };
 
     fn hash<H: Hasher>(&self, state: &mut H) {
         words::hash(&self.words, state);

@@ -1,9 +1,10 @@
+//! A counter of steps for contracts.
 ghost use Rattle.std.specs.Prelude.{◌≡◌, ◌<◌, ◌+◌};
 
 use std::marker::Model;
 use std::sync::ledger::{Blank, Book, Ledger, Share};
 
-/// A counter for contracts: how many steps were taken. It takes no bytes when the program runs, and
+/// The number of steps taken so far, for contracts. It takes no bytes when the program runs, and
 /// only `tick` changes it.
 #[derive(Drop)]
 pub struct Steps<L: Ledger> {
@@ -22,8 +23,7 @@ impl<L: Ledger> Model for Steps<L> {
 }
 
 impl<L: Ledger> Steps<L> {
-    /// A counter that stands at 0, over a ledger that no other counter has:
-    /// `Steps::start(Blank::new(1))`.
+    /// A counter at 0, over a ledger that no other counter has: `Steps::start(Blank::new(1))`.
     pub fn start(blank: Blank) -> Steps<L>
         requires name { blank.name ≡ L.name }
         requires parts { blank.parts ≡ L.parts }

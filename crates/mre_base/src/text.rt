@@ -1,3 +1,4 @@
+//! Texts in UTF-8.
 ghost use Rattle.std.specs.Prelude.{◌≡◌, IfOk};
 
 use crate::NoMemory;
@@ -7,7 +8,7 @@ use std::cmp::Ordering;
 use std::marker::Model;
 use std::{fmt, str};
 
-/// One text, seen as the list of its bytes in UTF-8. Up to 16 bytes lie in the value itself.
+/// A text, seen as the list of its bytes in UTF-8. Up to 16 bytes are kept in the value itself.
 pub struct Text {
     bytes: SmallVec<u8, 16>,
 }
@@ -82,7 +83,7 @@ impl PartialOrd for Text {
     }
 }
 
-/// As the text between quotes.
+/// The text between quotes.
 impl fmt::Debug for Text {
     fn fmt<W: fmt::Write>(&self, f: &mut fmt::Formatter<W>) -> fmt::Result {
         fmt::Debug::fmt(self.as_str(), f)
@@ -90,7 +91,7 @@ impl fmt::Debug for Text {
 }
 
 impl Text {
-    /// A text of its own with these bytes.
+    /// A copy of this text, in memory of its own.
     pub fn of(alloc: Global, text: &str) -> Result<Text, NoMemory>
         ensures ok { IfOk result (λ made. made ≡ text.now) }
     {

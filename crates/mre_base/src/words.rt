@@ -1,5 +1,5 @@
-//! Sets of numbers as the bits of words: bit `k` stands in word `k / 64`, at place `k % 64` from
-//! the lowest.
+//! Sets of numbers as the bits of words: bit `k` is in word `k / 64`, at place `k % 64` from the
+//! lowest.
 ghost use Rattle.std.specs.Prelude.{◌≡◌, ◌≢◌, ℕ, ◌+◌, ◌*◌, ◌^◌, ◌<◌, ◌≤◌, ◌↔◌, ◌||◌, ◌&&◌, not};
 ghost use Rattle.std.specs.Prelude.{length, nat_eq, IsTrue, slice_index, filter, fold};
 ghost use Rattle.std.specs.List.{range_with_len};
@@ -36,7 +36,7 @@ pub fn take_out(words: &mut [u64], i: u32)
     words[word] = words[word] & !(1 << (i % 64));
 }
 
-/// The same as `put` for words that may lie in the value or apart from it.
+/// As `put`, for the words of a `SmallVec`.
 pub fn put_in(words: &mut SmallVec<u64, 2>, i: u32)
     requires { i < 64 * length words.old.items }
     ensures bits { (k : ℕ) → has_bit words.new.items k ≡ (nat_eq k i || has_bit words.old.items k) }
@@ -45,7 +45,7 @@ pub fn put_in(words: &mut SmallVec<u64, 2>, i: u32)
     put(words.as_mut_slice(), i);
 }
 
-/// The same as `take_out` for such words.
+/// As `take_out`, for the words of a `SmallVec`.
 pub fn take_out_of(words: &mut SmallVec<u64, 2>, i: u32)
     requires { i < 64 * length words.old.items }
     ensures bits { (k : ℕ) → has_bit words.new.items k
@@ -55,7 +55,7 @@ pub fn take_out_of(words: &mut SmallVec<u64, 2>, i: u32)
     take_out(words.as_mut_slice(), i);
 }
 
-/// Makes the words those of another set of the same width.
+/// Sets the words to those of another set of the same width.
 pub fn copy(words: &mut SmallVec<u64, 2>, from: &[u64])
     requires { length words.old.items ≡ length from.now }
     ensures { words.new.items ≡ from.now }
@@ -63,7 +63,7 @@ pub fn copy(words: &mut SmallVec<u64, 2>, from: &[u64])
     words.as_mut_slice().copy_from_slice(from);
 }
 
-/// Whether the words are the same.
+/// Whether the words are equal.
 pub fn is_same(one: &[u64], two: &[u64]) -> bool
     ensures same { IsTrue result ↔ (one.now ≡ two.now) }
     ensures one { AreWords one.now }
@@ -92,7 +92,7 @@ pub fn is_subset(one: &[u64], two: &[u64]) -> bool
     true
 }
 
-/// How many bits are set.
+/// The number of bits that are set.
 pub fn count(words: &[u64]) -> u32
     requires { 64 * length words.now < 2 ^ 32 }
     ensures { result ≡ length (filter (has_bit words.now)
@@ -105,7 +105,7 @@ pub fn count(words: &[u64]) -> u32
     set
 }
 
-/// Whether a bit from bit `k` of word `i` on is set.
+/// Whether some bit is set from bit `k` of word `i` on.
 pub fn any_from(words: &[u64], i: usize, k: u32) -> bool
     requires word { i < length words.now }
     requires bit { k < 64 }
@@ -115,7 +115,7 @@ pub fn any_from(words: &[u64], i: usize, k: u32) -> bool
     words[i] >> k != 0 || any_word_from(words, i + 1)
 }
 
-/// Whether a word from word `i` on isn't 0.
+/// Whether some word from word `i` on isn't 0.
 fn any_word_from(words: &[u64], i: usize) -> bool
     ensures { IsTrue result ↔ ((j : ℕ) × (i ≤ j) × (j < length words.now)
         × (slice_index words.now j ≢ 0)) }
@@ -144,9 +144,8 @@ pub fn is_list_before(one: &[u64], two: &[u64]) -> bool
     false
 }
 
-/// The same, where word `i` is the first that differs. The lists agree up to its lowest bit that
-/// differs, and the list
-/// with that number is the earlier one unless the other ends before it.
+/// As `is_list_before`, where word `i` is the first that differs. The lists agree up to its lowest
+/// bit that differs, and the list with that number is the earlier one unless the other ends there.
 fn is_list_before_at(one: &[u64], two: &[u64], i: usize) -> bool
     requires long { length one.now ≡ length two.now }
     requires within { i < length one.now }

@@ -1,11 +1,10 @@
 -- A look-up by the bytes of a name.
-use Rattle.std.proofs.Common.{◌≡◌, ℕ, zero, suc, ◌+◌, Bool, true, false, cond, List, [], ◌∷◌, ◌++◌, Some, None, drop, refl, sym, ap, ◌∙◌, add-one}
+use Rattle.std.proofs.Common.{◌≡◌, ℕ, Bool, true, false, cond, List, [], ◌∷◌, ◌++◌, Some, None, refl, sym, ap, ◌∙◌}
 use Rattle.std.proofs.lemmas.Map.Text.{is_eq-slice_cmp}
 use Rattle.std.specs.Ordering.{nat_cmp, eq_by_cmp}
 use Rattle.std.specs.Option.{option_or}
 use Rattle.std.specs.Cmp.Lexicographic.{slice_cmp, nat_list_cmp_total}
 use Rattle.std.specs.FinMap.{get, from_entries, get-from_entries}
-use Rattle.std.specs.List.{slice_get}
 use Rattle.std.specs.Str.{bytes_eq}
 use Rattle.mre_outside.specs.Shelves.{first_under}
 
@@ -21,11 +20,11 @@ module _ (name key value : List ℕ) (rest entries : Entries) (first : entries �
       ∙ ap (λ same. cond same (Some value) (first_under rest name))
       (is_eq-slice_cmp name key ∙ sym (ap (bytes_eq name) is_key) ∙ tested)
 
-  -- what stands first under the name is what is found
+  -- an entry of this name is found
   pub find_here : bytes_eq name read ≡ true → first_under entries name ≡ Some value
   find_here same = first_of true same
 
-  -- what stands first under another name is passed over
+  -- an entry of another name is passed over
   pub find_later : bytes_eq name read ≡ false → first_under entries name ≡ first_under rest name
   find_later other = first_of false other
 
@@ -42,7 +41,7 @@ held_under : (puts given : Entries) (name : List ℕ) → get (from_entries {R =
 held_under puts given name =
     get-from_entries nat_list_cmp_total (puts ++ given) name ∙ first_under-append puts given name
 
--- a shelf holds what was put last under a name
+-- a shelf holds the last put under a name
 pub get_put : (puts given : Entries) (name bytes : List ℕ) → Some bytes ≡ first_under puts name → Some bytes ≡ get (from_entries {R = slice_cmp nat_cmp} (puts ++ given)) name
 get_put puts given name bytes put =
     sym (held_under puts given name ∙ ap (λ found. option_or found (first_under given name)) (sym put))
@@ -51,9 +50,3 @@ get_put puts given name bytes put =
 pub get_given : (puts given : Entries) (name : List ℕ) → None ≡ first_under puts name → get (from_entries {R = slice_cmp nat_cmp} (puts ++ given)) name ≡ first_under given name
 get_given puts given name none =
     held_under puts given name ∙ ap (λ found. option_or found (first_under given name)) (sym none)
-
--- the list from a place on begins with the item there
-pub drop_here : {X : Type 0} (xs : List X) (place : ℕ) (x : X) → slice_get xs place ≡ Some x → drop place xs ≡ x ∷ drop (place + 1) xs
-drop_here [] place x is = cc
-drop_here (y ∷ ys) zero x is = cc
-drop_here (y ∷ ys) (suc place) x is = simp add-one (simp add-one at (drop_here ys place x is))

@@ -1,4 +1,4 @@
--- What stands under a name after bytes were put.
+-- The bytes under the other names after a put.
 use Rattle.std.proofs.Common.{◌≡◌, ◌≢◌, ℕ, false, cond, List, Some, ap, ◌∙◌}
 use Rattle.std.proofs.lemmas.Bool.{false_from_ne_true}
 use Rattle.std.proofs.lemmas.Map.Text.{is_eq-slice_cmp}
@@ -8,7 +8,7 @@ use Rattle.std.specs.FinMap as map
 use Rattle.std.specs.Str.{bytes_eq}
 use Rattle.mre_outside.specs.Shelves.{Files}
 
--- what stands under another name stays
+-- another name keeps its bytes
 pub get-insert_other : (files : Files) (name bytes other : List ℕ) → other ≢ name → map.get (map.insert files name bytes) other ≡ map.get files other
 get-insert_other files name bytes other differs =
     let apart : bytes_eq other name ≡ false = false_from_ne_true (bytes_eq other name) (λ same. differs ((bytes_eq-Decides other name).0 same)) in

@@ -8,9 +8,9 @@ abbrev pub writer_of : {W : Type 0} → StdSink W → W
 writer_of sink = sink.writer
 
 -- how often the writer has failed
-abbrev pub sink_faults : {W : Type 0} → StdSink W → ℕ
-sink_faults sink = sink.faults
+abbrev pub sink_failures : {W : Type 0} → StdSink W → ℕ
+sink_failures sink = sink.failures
 
 -- how often a file has failed
-abbrev pub shelf_faults : {R : Type 0} → FileShelf R → ℕ
-shelf_faults shelf = shelf.faults
+abbrev pub shelf_failures : {R : Type 0} → FileShelf R → ℕ
+shelf_failures shelf = shelf.failures

@@ -1,9 +1,9 @@
--- Which calls on an object in memory fail, counted from 1, and what a call that fails takes.
+-- Which calls on a shelf or a sink in memory fail, counted from 1, and what a failed call takes.
 use Rattle.std.specs.Prelude.{ℕ, ◌/◌, ◌≤◌, List, take, length, Contains}
 use Rattle.mre_outside.specs.declared.failing.FailingCalls.{FailingCalls}
 use Rattle.mre_outside.specs.declared.failing.FailingCalls.TheVariants.{Listed, From}
 
--- the call of this number is one that fails
+-- the call with this number fails
 abbrev pub Fails : FailingCalls → ℕ → Type 0
 Fails (Listed numbers) call = Contains numbers call
 Fails (From first) call = first ≤ call

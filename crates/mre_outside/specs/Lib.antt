@@ -1,4 +1,4 @@
-pub mod Faults
+pub mod Failures
 pub mod Failing
 pub mod Sinks
 pub mod MemorySinks

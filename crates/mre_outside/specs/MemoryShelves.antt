@@ -7,31 +7,31 @@ use Rattle.mre_outside.specs.Shelves.{Files}
 use Rattle.mre_outside.specs.declared.failing.FailingCalls.{FailingCalls}
 use Rattle.mre_outside.specs.declared.shelf.ShelfCall.{ShelfCall}
 
--- the bytes under each name, the calls that it answered, and which calls it fails
+-- the bytes under each name, the calls that it answered, and which calls fail
 pub record ShelfInMemory : Type 0 where
   pub held : Files
   pub asked : List ShelfCall
   pub failing : FailingCalls
 
--- the shelf made of these files, each a name and its content, before it was asked anything
+-- the shelf with these files, each a name and its content, before any call
 abbrev pub made_of : List (List ℕ × List ℕ) → FailingCalls → ShelfInMemory
 made_of files failing = record { held = map.from_entries files; asked = []; failing = failing }
 
--- how many of the calls failed
+-- the number of failed calls
 abbrev pub failed_calls : List ShelfCall → ℕ
 failed_calls calls = count_by (λ call. call.failed) calls
 
--- the next call is one that fails
+-- the next call will fail
 abbrev pub NextCallFails : ShelfInMemory → Type 0
 NextCallFails shelf = Fails shelf.failing (length shelf.asked + 1)
 
--- the next call does not fail, and these are all the bytes under the name, within the limit
+-- the next call won't fail, and these are all the bytes under the name, within the limit
 pub record Reads (shelf : ShelfInMemory) (name : List ℕ) (limit : ℕ) (bytes : List ℕ) : Type 0 where
   pub spared : ¬ NextCallFails shelf
   pub held : map.get shelf.held name ≡ Some bytes
   pub within : length bytes ≤ limit
 
--- the next call does not fail, and more bytes than the limit stand under the name
+-- the next call won't fail, and there are more bytes under the name than the limit
 pub record IsTooLong (shelf : ShelfInMemory) (name : List ℕ) (limit : ℕ) : Type 0 where
   pub spared : ¬ NextCallFails shelf
   pub longer : IsSomeAnd (map.get shelf.held name) (λ bytes. limit < length bytes)

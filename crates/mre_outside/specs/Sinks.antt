@@ -1,4 +1,4 @@
--- What a call does to the bytes that a sink tells. Bytes that it tells it goes on telling.
+-- What a call does to the bytes of a sink, where they are known. Once known, they stay known.
 use Rattle.std.specs.Prelude.{ℕ, List, take, Option}
 use Rattle.std.specs.Io.KnownBytes.{Appends}
 

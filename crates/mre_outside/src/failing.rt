@@ -1,8 +1,9 @@
+//! The calls that a shelf or a sink in memory is to fail.
 ghost use Rattle.std.specs.Prelude.{◌↔◌, IsTrue};
 
 use mre_base::List;
 
-/// Which calls on an object in memory fail. Its calls are counted from 1.
+/// Which calls on a shelf or a sink in memory fail, counted from 1.
 #[derive(Debug, Drop)]
 pub enum FailingCalls {
     /// The calls with these numbers.

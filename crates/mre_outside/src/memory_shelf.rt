@@ -1,3 +1,4 @@
+//! A shelf in memory, for tests and cases.
 ghost use Rattle.std.specs.Prelude.{◌≡◌, ◌⊎◌, ◌↔◌, ◌++◌, [], ◌∷◌, None, option_copied, IfOk, OnOk};
 ghost use Rattle.std.specs.Prelude.{OnErr, IsErrOf, IsTrue};
 ghost use Rattle.std.specs.FinMap as map;
@@ -23,14 +24,14 @@ impl Drop for Kept {
     }
 }
 
-/// A shelf in memory, of which chosen calls fail. A put that fails leaves the first half of its
-/// bytes, rounded down. The calls of `read` and `put` that are not refused memory count together,
-/// from 1.
+/// A shelf in memory, on which chosen calls fail. A put that fails leaves the first half of its
+/// bytes, rounded down. Reads and puts are counted together, from 1, except those that run out of
+/// memory.
 #[derive(Debug)]
 pub struct MemoryShelf {
     alloc: Global,
     given: List<(Text, Text)>,
-    // What was put last stands first.
+    // The last put comes first.
     puts: VecDeque<Kept>,
     asked: Vec<ShelfCall>,
     failing: FailingCalls,
@@ -74,15 +75,15 @@ impl MemoryShelf {
     ghost use Rattle.mre_outside.specs.declared.shelf.Act.TheVariants.{Put};
     ghost use Rattle.mre_outside.specs.declared.failing.FailingCalls.TheVariants.{Listed, From};
 
-    /// A shelf with these files, each a name and its content; where a name stands twice the first
-    /// counts. The calls with the numbers of `failing` will fail.
+    /// A shelf with these files, each a name and its content; if a name occurs twice, its first file
+    /// counts. The calls with these numbers will fail.
     pub fn new(alloc: Global, files: List<(Text, Text)>, failing: List<u32>) -> MemoryShelf
         ensures { result ≡ made_of files (Listed failing) }
     {
         MemoryShelf::with_failing(alloc, files, FailingCalls::Listed(failing))
     }
 
-    /// A shelf with these files, each a name and its content; where a name stands twice the first
+    /// A shelf with these files, each a name and its content; if a name occurs twice, its first file
     /// counts. The call with this number and each later one will fail.
     pub fn stopping(alloc: Global, files: List<(Text, Text)>, from: u32) -> MemoryShelf
         ensures { result ≡ made_of files (From from) }
@@ -112,7 +113,7 @@ impl MemoryShelf {
         }
     }
 
-    /// The calls that it answered, in their order.
+    /// The calls that it answered, in order.
     pub fn asked(&self) -> &[ShelfCall]
         ensures { result.now ≡ self.now.asked }
     {
@@ -144,7 +145,7 @@ impl MemoryShelf {
         Ok(Vec::from_slice(self.alloc, bytes).map_err(NoMemory::from)?)
     }
 
-    // Keeps the bytes under the name, and adds the put to the calls. On a refusal all stays.
+    // Keeps the bytes under the name, and notes the put. If memory runs out, nothing changes.
     fn keep(&mut self, name: &str, bytes: &[u8], failed: bool) -> Result<(), NoMemory>
         ensures ok { OnOk result (self.new ≡ after_put self.old name.now bytes.now
             (record { name = name.now; act = Put; failed = failed } ∷ [])) }
@@ -173,7 +174,7 @@ impl Shelf for MemoryShelf {
 
     ghost asked = { λ shelf. Some shelf.asked };
 
-    ghost faults = { λ shelf. failed_calls shelf.asked };
+    ghost failures = { λ shelf. failed_calls shelf.asked };
 
     ghost is_sound = { λ shelf. NoneFails shelf.failing };
 
@@ -201,7 +202,7 @@ impl Shelf for MemoryShelf {
         ensures no_memory { IsErrOf result PutStop.NoMemory → self.new ≡ self.old }
         ensures others { KeepsOthers name.now self.old.held self.new.held }
 
-        // Of the puts that are not refused memory those fail that were chosen, and no other.
+        // Unless memory runs out, exactly the chosen puts fail.
         ensures failed { IsErrOf result PutStop.Failed → NextCallFails self.old }
         ensures spared { OnOk result (¬ NextCallFails self.old) }
     {
@@ -214,7 +215,7 @@ impl Shelf for MemoryShelf {
     }
 }
 
-// Adds a call to those that were asked. On a refusal they stay as they were.
+// Notes a call. If memory runs out, the calls stay as they were.
 fn note(
     alloc: Global,
     asked: &mut Vec<ShelfCall>,
@@ -231,7 +232,7 @@ fn note(
     Ok(())
 }
 
-/// What was put last under the name.
+/// The bytes that were put last under the name.
 fn put_under<'a>(puts: &'a VecDeque<Kept>, name: &str) -> Option<&'a [u8]>
     ensures { option_copied result ≡ first_under (kept_entries puts.now.items) name.now }
 {
@@ -243,7 +244,7 @@ fn put_under<'a>(puts: &'a VecDeque<Kept>, name: &str) -> Option<&'a [u8]>
     None
 }
 
-/// What stands under the name in the files that the shelf was made with.
+/// The bytes under the name in the files that the shelf was made with.
 fn given_under<'a>(given: &'a List<(Text, Text)>, name: &str) -> Option<&'a [u8]>
     ensures { option_copied result ≡ first_under given.now name.now }
 {

@@ -1,3 +1,4 @@
+//! A sink in memory whose writes may fail, for tests and cases.
 ghost use Rattle.std.specs.Prelude.{◌≡◌};
 
 use crate::{FailingCalls, Sink, SinkStop, SoundSink};
@@ -5,13 +6,13 @@ use mre_base::List;
 use std::alloc::Global;
 use std::marker::Model;
 
-/// A sink in memory, of which chosen writes fail. A write that fails takes the first half of its
-/// bytes, rounded down. The writes that are not refused memory count from 1.
+/// A sink in memory, on which chosen writes fail. A write that fails takes the first half of its
+/// bytes, rounded down. Writes are counted from 1, except those that run out of memory.
 #[derive(Debug)]
 pub struct MemorySink {
     taken: SoundSink,
     writes: u64,
-    faults: u64,
+    failures: u64,
     failing: FailingCalls,
 }
 
@@ -20,7 +21,7 @@ impl Drop for MemorySink {
         let MemorySink {
             taken: _,
             writes: _,
-            faults: _,
+            failures: _,
             failing: _,
         } = self;
     }
@@ -34,7 +35,7 @@ impl Model for MemorySink {
     ghost view = { λ sink. record {
       written = sink.taken;
       writes = sink.writes;
-      faults = sink.faults;
+      failures = sink.failures;
       failing = sink.failing;
     } };
 }
@@ -43,14 +44,14 @@ impl MemorySink {
     ghost use Rattle.mre_outside.specs.MemorySinks.{made_empty};
     ghost use Rattle.mre_outside.specs.declared.failing.FailingCalls.TheVariants.{Listed, From};
 
-    /// A sink without bytes. The writes with these numbers will fail.
+    /// An empty sink. The writes with these numbers will fail.
     pub fn new(alloc: Global, failing: List<u32>) -> MemorySink
         ensures { result ≡ made_empty (Listed failing) }
     {
         MemorySink::with_failing(alloc, FailingCalls::Listed(failing))
     }
 
-    /// A sink without bytes. The write with this number and each later one will fail.
+    /// An empty sink. The write with this number and each later one will fail.
     pub fn stopping(alloc: Global, from: u32) -> MemorySink
         ensures { result ≡ made_empty (From from) }
     {
@@ -63,7 +64,7 @@ impl MemorySink {
         MemorySink {
             taken: SoundSink::new(alloc),
             writes: 0,
-            faults: 0,
+            failures: 0,
             failing,
         }
     }
@@ -83,7 +84,7 @@ impl Sink for MemorySink {
 
     ghost written = { λ sink. Some sink.written };
 
-    ghost faults = { λ sink. sink.faults };
+    ghost failures = { λ sink. sink.failures };
 
     ghost is_sound = { λ sink. NoneFails sink.failing };
 
@@ -93,17 +94,17 @@ impl Sink for MemorySink {
             → self.new ≡ after_failure self.old bytes.now }
         ensures no_memory { IsErrOf result SinkStop.NoMemory → self.new ≡ self.old }
 
-        // Of the writes that are not refused memory those fail that were chosen, and no other.
+        // Unless memory runs out, exactly the chosen writes fail.
         ensures failed { IsErrOf result SinkStop.Failed → NextWriteFails self.old }
         ensures spared { OnOk result (¬ NextWriteFails self.old) }
 
-        ensures never_falls { self.old.faults ≤ self.new.faults }
+        ensures never_falls { self.old.failures ≤ self.new.failures }
     {
         let write = self.writes.saturating_add(1);
         if self.failing.fails(write) {
             self.taken.append(&bytes[..bytes.len() / 2])?;
             self.writes = write;
-            self.faults = self.faults.saturating_add(1);
+            self.failures = self.failures.saturating_add(1);
             return Err(SinkStop::Failed);
         }
         self.taken.append(bytes)?;

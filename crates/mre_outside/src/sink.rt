@@ -1,14 +1,15 @@
+//! Sinks: what takes bytes.
 ghost use Rattle.std.specs.Prelude.{◌≡◌, ◌≤◌, ℕ, List, Option, OnOk, IsErrOf};
 ghost use Rattle.std.specs.Io.KnownBytes.{Appends};
-ghost use Rattle.mre_outside.specs.Faults.{Rose};
+ghost use Rattle.mre_outside.specs.Failures.{Rose};
 ghost use Rattle.mre_outside.specs.Sinks.{AppendsPrefix};
 
 use mre_base::NoMemory;
 
-/// Why a sink did not take all the bytes.
+/// Why a sink didn't take all the bytes.
 #[derive(Clone, Copy, Debug, PartialEq, Eq)]
 pub enum SinkStop {
-    /// The place that the bytes go to refused them, or took nothing. It may have taken the first.
+    /// Writing failed, or took nothing. A prefix of the bytes may be written.
     Failed,
     /// Memory ran out. The sink is as it was.
     NoMemory,
@@ -27,11 +28,11 @@ impl From<NoMemory> for SinkStop {
 
 /// What takes bytes: a terminal, a file, a buffer.
 pub trait Sink {
-    /// The bytes that it holds, where it tells them. Bytes that it tells it goes on telling.
+    /// The bytes that it holds, where they are known. Once known, they stay known.
     ghost written: { Self → Option (List ℕ) };
 
-    /// How often it has failed, up to the end of a `u64`.
-    ghost faults: { Self → ℕ };
+    /// How often it has failed. The count stops at the largest `u64`.
+    ghost failures: { Self → ℕ };
 
     /// No write on it fails.
     ghost is_sound: { Self → Type 0 } = { λ _. ⊥ };
@@ -43,10 +44,10 @@ pub trait Sink {
             → AppendsPrefix (written self.old) (written self.new) bytes.now }
         ensures no_memory { IsErrOf result SinkStop.NoMemory → written self.new ≡ written self.old }
 
-        // It says that it failed only where it did, and never goes back on it.
-        ensures failed { IsErrOf result SinkStop.Failed → Rose (faults self.old) (faults self.new) }
-        ensures no_fault { IsErrOf result SinkStop.NoMemory → faults self.new ≡ faults self.old }
-        ensures never_falls { faults self.old ≤ faults self.new }
+        // It answers `Failed` only where the count of failures rose, and that never falls.
+        ensures failed { IsErrOf result SinkStop.Failed → Rose (failures self.old) (failures self.new) }
+        ensures no_failure { IsErrOf result SinkStop.NoMemory → failures self.new ≡ failures self.old }
+        ensures never_falls { failures self.old ≤ failures self.new }
 
         ensures sound { is_sound self.old → ¬ IsErrOf result SinkStop.Failed }
         ensures stays_sound { is_sound self.old → is_sound self.new };

@@ -1,3 +1,4 @@
+//! A sink in memory that never fails.
 ghost use Rattle.std.specs.Prelude.{◌≡◌, ◌++◌, [], OnOk, OnErr};
 
 use crate::{Sink, SinkStop};
@@ -20,7 +21,7 @@ impl Model for SoundSink {
 }
 
 impl SoundSink {
-    /// A sink without bytes.
+    /// An empty sink.
     pub fn new(alloc: Global) -> SoundSink
         ensures { result ≡ [] }
     {
@@ -51,7 +52,7 @@ impl Sink for SoundSink {
 
     ghost written = { λ sink. Some sink };
 
-    ghost faults = { λ _. 0 };
+    ghost failures = { λ _. 0 };
 
     ghost is_sound = { λ _. Unit {0} };
 

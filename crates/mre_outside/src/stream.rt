@@ -1,17 +1,17 @@
-// Readers and writers, called until all is read or written. Each `Err` of theirs is counted as a
-// fault. A call that was interrupted, as by a stop of the program at its terminal, is counted and
-// made again.
+//! Reading to the end and writing all bytes. Each `Err` of a reader or a writer is counted as a
+//! failure. An interrupted call, as when the program is stopped at its terminal, is counted and
+//! repeated.
 ghost use Rattle.std.specs.Prelude.{◌≡◌, ◌+◌, ◌≤◌, ◌<◌, ◌++◌, [], length, vec_capacity, IfSome};
 ghost use Rattle.std.specs.Prelude.{IfOk, OnOk, IsErrOf, IsErr};
 ghost use Rattle.std.specs.Io.KnownBytes.{Appends};
-ghost use Rattle.mre_outside.specs.Faults.{one_more, Rose};
+ghost use Rattle.mre_outside.specs.Failures.{one_more, Rose};
 ghost use Rattle.mre_outside.specs.Sinks.{AppendsPrefix};
 ghost use Rattle.mre_outside.specs.Streams.{TakesAtMost};
 
 use crate::{PutStop, ShelfStop, SinkStop};
 use std::io::{ErrorKind, Read, Write};
 
-/// How many bytes a reader is asked for at once.
+/// The most bytes that a reader is asked for at once.
 const CHUNK: usize = 65536;
 
 /// A writer failed, or took nothing.
@@ -40,22 +40,26 @@ impl From<WriteFailed> for PutStop {
     }
 }
 
-/// Counts one fault more. The count stands still at its end.
-pub(crate) fn raise(faults: &mut u64)
-    ensures rose { faults.new ≡ one_more faults.old }
-    ensures never_falls { faults.old ≤ faults.new }
+/// Counts one more failure. The count stops at the largest `u64`.
+pub(crate) fn raise(failures: &mut u64)
+    ensures rose { failures.new ≡ one_more failures.old }
+    ensures never_falls { failures.old ≤ failures.new }
 {
-    *faults = faults.saturating_add(1);
+    *failures = failures.saturating_add(1);
 }
 
-/// Writes all the bytes. A writer that takes nothing has failed, and then a prefix of them may be
-/// written.
-pub fn write_to<W: Write>(writer: &mut W, bytes: &[u8], faults: &mut u64) -> Result<(), WriteFailed>
+/// Writes all the bytes. A writer that takes nothing has failed. After a failure a prefix of the
+/// bytes may be written.
+pub fn write_to<W: Write>(
+    writer: &mut W,
+    bytes: &[u8],
+    failures: &mut u64,
+) -> Result<(), WriteFailed>
     ensures ok { OnOk result (Appends (W.contents writer.old) (W.contents writer.new) bytes.now) }
-    ensures failed { IsErr result → Rose faults.old faults.new }
+    ensures failed { IsErr result → Rose failures.old failures.new }
     ensures part { IsErr result
         → AppendsPrefix (W.contents writer.old) (W.contents writer.new) bytes.now }
-    ensures never_falls { faults.old ≤ faults.new }
+    ensures never_falls { failures.old ≤ failures.new }
 {
     let mut rest = bytes;
     for _ in 0..u64::MAX {
@@ -66,37 +70,37 @@ pub fn write_to<W: Write>(writer: &mut W, bytes: &[u8], faults: &mut u64) -> Res
             Ok(0) => break,
             Ok(count) => rest = &rest[count..],
             Err(error) => {
-                raise(faults);
+                raise(failures);
                 if error.kind() != ErrorKind::Interrupted {
                     return Err(WriteFailed);
                 }
             }
         }
     }
-    // It took nothing, or was interrupted at every turn.
-    raise(faults);
+    // It took nothing, or was interrupted each time.
+    raise(failures);
     Err(WriteFailed)
 }
 
-/// Reads to the end, where that comes after at most `limit` bytes, and asks for one byte more than
-/// `limit` at most. What is read goes into `room`, so no memory is taken.
+/// Reads to the end, if that comes after at most `limit` bytes. It asks for at most one byte more
+/// than `limit`, and reads into `room`, so it allocates nothing.
 pub fn read_from<R: Read>(
     reader: &mut R,
     room: Vec<u8>,
     limit: u32,
-    faults: &mut u64,
+    failures: &mut u64,
 ) -> Result<Vec<u8>, ShelfStop>
     requires empty { room.items ≡ [] }
     requires room { limit + 1 ≤ vec_capacity room }
     ensures ok { IfSome (R.remaining reader.old) (λ left.
         IfOk result (λ bytes. bytes.items ≡ left)) }
     ensures within { IfOk result (λ bytes. length bytes.items ≤ limit) }
-    ensures failed { IsErrOf result ShelfStop.Failed → Rose faults.old faults.new }
+    ensures failed { IsErrOf result ShelfStop.Failed → Rose failures.old failures.new }
     ensures too_long { IsErrOf result ShelfStop.TooLong
         → IfSome (R.remaining reader.old) (λ left. limit < length left) }
     ensures no_memory { ¬ IsErrOf result ShelfStop.NoMemory }
     ensures asks { TakesAtMost (R.remaining reader.old) (R.remaining reader.new) (limit + 1) }
-    ensures never_falls { faults.old ≤ faults.new }
+    ensures never_falls { failures.old ≤ failures.new }
 {
     let mut bytes = room;
     let mut chunk = [0u8; CHUNK];
@@ -112,14 +116,14 @@ pub fn read_from<R: Read>(
                 }
             }
             Err(error) => {
-                raise(faults);
+                raise(failures);
                 if error.kind() != ErrorKind::Interrupted {
                     return Err(ShelfStop::Failed);
                 }
             }
         }
     }
-    // It was interrupted at every turn.
-    raise(faults);
+    // It was interrupted each time.
+    raise(failures);
     Err(ShelfStop::Failed)
 }

@@ -8,7 +8,7 @@ use Rattle.std.proofs.lemmas.List.Folds.{concat-append}
 use Rattle.std.proofs.lemmas.Option.{slice_get_within, get_or_from_slice_get}
 use Rattle.std.proofs.lemmas.Bool.{cases_lt}
 use Rattle.mre_outside.specs.Sinks.{AppendsPrefix}
-use Rattle.mre_top.proofs.Written.{Appends-twice}
+use Rattle.mre_outside.proofs.Streams.{Appends-twice}
 
 -- the lines before one, that line, and the rest
 parts : (ls : List (List ℕ)) (k : ℕ) (line : List ℕ) → slice_get ls k ≡ Some line → (rest : List ℕ) × (concat ls ≡ concat (take k ls) ++ (line ++ rest))

@@ -1,28 +1,13 @@
 -- What writes leave on a sink, whatever they answer, at the end of what the sink told.
-use Rattle.std.proofs.Common.{◌≡◌, ◌⊎◌, ◌≤◌, ℕ, ◌+◌, List, [], ◌++◌, length, take, Option, None, Some, Result, Ok, Err, OnOk, refl, sym, ap, ◌∙◌, subst, append_assoc, arith, inl, inr}
+use Rattle.std.proofs.Common.{◌≡◌, ◌⊎◌, ◌≤◌, ℕ, ◌+◌, List, ◌++◌, length, take, Option, Result, Ok, Err, OnOk, refl, sym, subst, arith, inl, inr}
 use Rattle.std.proofs.Math.Seq.{take-append-add}
-use Rattle.std.proofs.lemmas.List.{append-nil}
 use Rattle.std.specs.Io.KnownBytes.{Appends}
-use Rattle.mre_outside.specs.Faults.{Rose}
+use Rattle.mre_outside.specs.Failures.{Rose}
 use Rattle.mre_outside.specs.Sinks.{AppendsPrefix}
 use Rattle.mre_outside.specs.declared.sink.SinkStop.{SinkStop}
 use Rattle.mre_outside.specs.declared.sink.SinkStop.TheVariants.{Failed, NoMemory}
+use Rattle.mre_outside.proofs.Streams.{Appends-twice}
 use Rattle.mre_top.specs.Telling.{IsWritten}
-
--- nothing was appended
-pub Appends-nothing : (old new : Option (List ℕ)) → new ≡ old → Appends old new []
-Appends-nothing old new e = subst (λ now. Appends old now []) (sym e) (same old)
-  where
-    same : (known : Option (List ℕ)) → Appends known known []
-    same None = tt
-    same (Some xs) = sym (append-nil xs)
-
--- one after another
-pub Appends-twice : (a b c : Option (List ℕ)) (xs ys : List ℕ) → Appends a b xs → Appends b c ys → Appends a c (xs ++ ys)
-Appends-twice None b c xs ys h k = tt
-Appends-twice (Some ws) None c xs ys h k = absurd h
-Appends-twice (Some ws) (Some bs) None xs ys h k = absurd k
-Appends-twice (Some ws) (Some bs) (Some cs) xs ys h k = k ∙ ap (λ l. l ++ ys) h ∙ append_assoc ws xs ys
 
 -- the bytes were written, or nothing was, whatever the write answered
 pub by_answer : (sound : Type 0) (bytes : List ℕ) (old new : Option (List ℕ)) (before now : ℕ) (r : Result (Unit {0}) SinkStop)

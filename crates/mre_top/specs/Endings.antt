@@ -3,7 +3,7 @@
 use Rattle.std.specs.Prelude.{◌≡◌, ◌⊎◌, ◌<◌, ℕ, List, Option, All, length, take}
 use Rattle.std.specs.List.{concat}
 use Rattle.std.specs.Io.KnownBytes.{Appends}
-use Rattle.mre_outside.specs.Faults.{Rose}
+use Rattle.mre_outside.specs.Failures.{Rose}
 use Rattle.request_answers.specs.Lines.{IsLine}
 use Rattle.std.specs.Ordering.{nat_cmp}
 use Rattle.std.specs.FinSet as set

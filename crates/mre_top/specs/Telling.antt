@@ -2,7 +2,7 @@
 use Rattle.std.specs.Prelude.{◌≡◌, ◌<◌, ◌⊎◌, ℕ, List, ◌++◌, length, take, Option}
 use Rattle.std.specs.List.{concat}
 use Rattle.std.specs.Io.KnownBytes.{Appends}
-use Rattle.mre_outside.specs.Faults.{Rose}
+use Rattle.mre_outside.specs.Failures.{Rose}
 use Rattle.mre_outside.specs.Sinks.{AppendsPrefix}
 use Rattle.mre_top.specs.declared.refusal.Refusal.{Refusal}
 use Rattle.mre_top.specs.Refusals.{lines_of, status_of, memory_line}

@@ -1,5 +1,5 @@
 ghost use Rattle.std.specs.Prelude.{◌≡◌, ◌<◌, ◌≤◌, length, map, OnOk, IfOk, IfErr};
-ghost use Rattle.mre_outside.specs.Faults.{Rose};
+ghost use Rattle.mre_outside.specs.Failures.{Rose};
 ghost use Rattle.mre_top.specs.Reads.{AreRead, Stops, IsReadFailed, IsMissingWhereFailed};
 ghost use Rattle.mre_top.specs.Reads.{asked_then, reads, name_at, IsRead, StopsAt, calls_of};
 
@@ -18,7 +18,7 @@ pub fn read_files<H: Shelf>(
     files: &List<Text>,
 ) -> Result<List<Vec<u8>>, Refusal>
     ensures held { H.held shelf.new ≡ H.held shelf.old }
-    ensures never_falls { H.faults shelf.old ≤ H.faults shelf.new }
+    ensures never_falls { H.failures shelf.old ≤ H.failures shelf.new }
     ensures contents { IfOk result (λ contents. AreRead (H.held shelf.old) files.now
         (map (λ bytes. bytes.items) contents)) }
     ensures asked { OnOk result (H.asked shelf.new
@@ -26,7 +26,7 @@ pub fn read_files<H: Shelf>(
     ensures err { IfErr result (Stops files.now (H.held shelf.old) (H.asked shelf.old)
         (H.asked shelf.new)) }
     ensures failed { IfErr result (λ refusal. IsReadFailed refusal
-        → Rose (H.faults shelf.old) (H.faults shelf.new)) }
+        → Rose (H.failures shelf.old) (H.failures shelf.new)) }
     ensures sound { H.is_sound shelf.old
         → IfErr result (IsMissingWhereFailed (H.held shelf.old) files.now) }
     ensures stays_sound { H.is_sound shelf.old → H.is_sound shelf.new }
@@ -49,14 +49,14 @@ pub fn read_files<H: Shelf>(
 fn read_file<H: Shelf>(shelf: &mut H, files: &List<Text>, file: usize) -> Result<Vec<u8>, Refusal>
     requires { file < length files.now }
     ensures held { H.held shelf.new ≡ H.held shelf.old }
-    ensures never_falls { H.faults shelf.old ≤ H.faults shelf.new }
+    ensures never_falls { H.failures shelf.old ≤ H.failures shelf.new }
     ensures read { IfOk result (λ bytes. IsRead (H.held shelf.old) (name_at files.now file)
         bytes.items) }
     ensures asked { H.asked shelf.new ≡ asked_then (H.asked shelf.old) (calls_of
         (name_at files.now file) result) }
     ensures err { IfErr result (StopsAt files.now file (H.held shelf.old)) }
     ensures failed { IfErr result (λ refusal. IsReadFailed refusal
-        → Rose (H.faults shelf.old) (H.faults shelf.new)) }
+        → Rose (H.failures shelf.old) (H.failures shelf.new)) }
     ensures sound { H.is_sound shelf.old
         → IfErr result (IsMissingWhereFailed (H.held shelf.old) files.now) }
     ensures stays_sound { H.is_sound shelf.old → H.is_sound shelf.new }

@@ -15,8 +15,8 @@ pub fn tell<E: Sink>(alloc: Global, refusal: &Refusal, files: &List<Text>, fault
     requires { IsOfFile files.now refusal.now }
     ensures told { IsTold (E.is_sound faults.old) files.now refusal.now result
         (E.written faults.old) (E.written faults.new)
-        (E.faults faults.old) (E.faults faults.new) }
-    ensures never_falls { E.faults faults.old ≤ E.faults faults.new }
+        (E.failures faults.old) (E.failures faults.new) }
+    ensures never_falls { E.failures faults.old ≤ E.failures faults.new }
     ensures stays_sound { E.is_sound faults.old → E.is_sound faults.new }
 {
     if matches!(refusal, Refusal::NoMemory) {
@@ -37,8 +37,8 @@ fn tell_no_memory<E: Sink>(faults: &mut E) -> u8
     ensures told { (E.written faults.new ≡ E.written faults.old)
         ⊎ IsWritten (E.is_sound faults.old) memory_line (E.written faults.old)
         (E.written faults.new)
-        (E.faults faults.old) (E.faults faults.new) }
-    ensures never_falls { E.faults faults.old ≤ E.faults faults.new }
+        (E.failures faults.old) (E.failures faults.new) }
+    ensures never_falls { E.failures faults.old ≤ E.failures faults.new }
     ensures stays_sound { E.is_sound faults.old → E.is_sound faults.new }
 {
     let _ = faults.write_all(b"mre: out of memory\n");

@@ -2,7 +2,7 @@ ghost use Rattle.std.specs.Prelude.{ℕ, ◌≡◌, ◌≢◌, ◌⊎◌, ◌↔
 ghost use Rattle.std.specs.Prelude.{Some, None, IsSome, IsNone, IfOk, IfErr, IsTrue};
 ghost use Rattle.std.specs.Prelude.{List as ListOf};
 ghost use Rattle.std.specs.String.{string_bytes};
-ghost use Rattle.mre_outside.specs.Faults.{Rose};
+ghost use Rattle.mre_outside.specs.Failures.{Rose};
 ghost use Rattle.mre_base.specs.declared.kind.Kind.{Kind as AnyKind};
 ghost use Rattle.mre_words.specs.Requests.{requested, names_in, files_of, count_of};
 ghost use Rattle.mre_words.specs.declared.request.Request.TheVariants.{Explain};
@@ -102,11 +102,11 @@ pub fn explain_top<H: Shelf, S: Sink, E: Sink>(
     ensures refused { result.status ≢ 0 → (refusal : Refusal)
         × IsRefused (requested (map string_bytes words.now)) (H.held shelf.old) (H.asked shelf.old)
         (H.asked shelf.new) refusal
-        × Leaves S.written S.faults S.is_sound (requested (map string_bytes words.now))
+        × Leaves S.written S.failures S.is_sound (requested (map string_bytes words.now))
         (H.held shelf.old) out.old out.new refusal
         × IsTold (E.is_sound faults.old) (names_in (requested (map string_bytes words.now))) refusal
         result.status
-        (E.written faults.old) (E.written faults.new) (E.faults faults.old) (E.faults faults.new)
+        (E.written faults.old) (E.written faults.new) (E.failures faults.old) (E.failures faults.new)
         × (H.is_sound shelf.old
         → IsMissingWhereFailed (H.held shelf.old)
         (names_in (requested (map string_bytes words.now))) refusal) }
@@ -115,30 +115,30 @@ pub fn explain_top<H: Shelf, S: Sink, E: Sink>(
     ensures usage { result.status ≡ 2 → requested (map string_bytes words.now) ≡ None }
     ensures no_request { requested (map string_bytes words.now) ≡ None
         → (result.status ≡ 2) ⊎ (result.status ≡ 9) }
-    ensures read_failed { result.status ≡ 3 → Rose (H.faults shelf.old) (H.faults shelf.new) }
-    ensures write_failed { result.status ≡ 4 → Rose (S.faults out.old) (S.faults out.new) }
+    ensures read_failed { result.status ≡ 3 → Rose (H.failures shelf.old) (H.failures shelf.new) }
+    ensures write_failed { result.status ≡ 4 → Rose (S.failures out.old) (S.failures out.new) }
     ensures cut_short { result.status ≡ 4 → IsCutShort (requested (map string_bytes words.now))
         (H.held shelf.old) (S.written out.old) (S.written out.new) }
     ensures misread { result.status ≡ 5 → (stop : AnswerStop) × IsOfText stop
         × EndsBy (E.is_sound faults.old) (requested (map string_bytes words.now)) (H.held shelf.old)
         (E.written faults.old) (E.written faults.new)
-        (E.faults faults.old) (E.faults faults.new) (Stopped stop) }
+        (E.failures faults.old) (E.failures faults.new) (Stopped stop) }
     ensures disagree { result.status ≡ 6 → (fault : PairFault)
         × EndsBy (E.is_sound faults.old) (requested (map string_bytes words.now)) (H.held shelf.old)
         (E.written faults.old) (E.written faults.new)
-        (E.faults faults.old) (E.faults faults.new) (Stopped (Disagree fault)) }
+        (E.failures faults.old) (E.failures faults.new) (Stopped (Disagree fault)) }
     ensures past_limit { result.status ≡ 7 → (refusal : Refusal) × IsPastLimit refusal
         × EndsBy (E.is_sound faults.old) (requested (map string_bytes words.now)) (H.held shelf.old)
         (E.written faults.old) (E.written faults.new)
-        (E.faults faults.old) (E.faults faults.new) refusal }
+        (E.failures faults.old) (E.failures faults.new) refusal }
     ensures not_valid { result.status ≡ 10 → (fault : PlanFault)
         × EndsBy (E.is_sound faults.old) (requested (map string_bytes words.now)) (H.held shelf.old)
         (E.written faults.old) (E.written faults.new)
-        (E.faults faults.old) (E.faults faults.new) (Stopped (NotValid fault)) }
+        (E.failures faults.old) (E.failures faults.new) (Stopped (NotValid fault)) }
     ensures not_cheapest { result.status ≡ 11 → (cost other : ℕ) × (steps : ListOf (ListOf ℕ))
         × EndsBy (E.is_sound faults.old) (requested (map string_bytes words.now)) (H.held shelf.old)
         (E.written faults.old) (E.written faults.new)
-        (E.faults faults.old) (E.faults faults.new) (Stopped (NotCheapest cost other steps)) }
+        (E.failures faults.old) (E.failures faults.new) (Stopped (NotCheapest cost other steps)) }
 
     // The other way, where the shelf tells: what the files say settles the status, but for a failed
     // read and want
@@ -151,8 +151,8 @@ pub fn explain_top<H: Shelf, S: Sink, E: Sink>(
         → IsUnlessEarlier result.status 7 }
     ensures complete { IsSome (H.held shelf.old)
         → EndWith (requested (map string_bytes words.now)) (H.held shelf.old) 0
-        → ¬ Rose (H.faults shelf.old) (H.faults shelf.new)
-        → ¬ Rose (S.faults out.old) (S.faults out.new)
+        → ¬ Rose (H.failures shelf.old) (H.failures shelf.new)
+        → ¬ Rose (S.failures out.old) (S.failures out.new)
         → (result.status ≡ 0) ⊎ (result.status ≡ 9) }
 
     // What was asked of the shelf: one read of each file in their order, up to one that failed or
@@ -166,7 +166,7 @@ pub fn explain_top<H: Shelf, S: Sink, E: Sink>(
         (H.asked shelf.new) file
         × EndsBy (E.is_sound faults.old) (requested (map string_bytes words.now)) (H.held shelf.old)
         (E.written faults.old) (E.written faults.new)
-        (E.faults faults.old) (E.faults faults.new) (ReadFailed file)
+        (E.failures faults.old) (E.failures faults.new) (ReadFailed file)
         × (H.is_sound shelf.old
         → IsMissing (H.held shelf.old) (name_at (names_in (requested (map string_bytes words.now)))
         file)) }
@@ -177,11 +177,11 @@ pub fn explain_top<H: Shelf, S: Sink, E: Sink>(
     ensures out_in_want { result.status ≡ 9 → (out.new ≡ out.old)
         ⊎ (IsCutAtLine (requested (map string_bytes words.now)) (H.held shelf.old)
         (S.written out.old) (S.written out.new)
-        ⊎ IsCutByFault (S.is_sound out.old) (S.faults out.old) (S.faults out.new)
+        ⊎ IsCutByFault (S.is_sound out.old) (S.failures out.old) (S.failures out.new)
         (requested (map string_bytes words.now)) (H.held shelf.old) (S.written out.old) (S.written out.new)) }
-    ensures shelf_faults { H.faults shelf.old ≤ H.faults shelf.new }
-    ensures out_faults { S.faults out.old ≤ S.faults out.new }
-    ensures faults_faults { E.faults faults.old ≤ E.faults faults.new }
+    ensures shelf_failures { H.failures shelf.old ≤ H.failures shelf.new }
+    ensures out_failures { S.failures out.old ≤ S.failures out.new }
+    ensures faults_failures { E.failures faults.old ≤ E.failures faults.new }
     ensures sound { H.is_sound shelf.old → result.status ≡ 3 →
         LacksOne (H.held shelf.old) (names_in (requested (map string_bytes words.now))) }
     ensures out_sound { S.is_sound out.old → result.status ≢ 4 }
@@ -207,22 +207,22 @@ fn run<H: Shelf, S: Sink, E: Sink>(
         ⊎ (IsNone result.answer × (refusal : Refusal)
         × IsRefused (requested (map string_bytes words.now)) (H.held shelf.old) (H.asked shelf.old)
         (H.asked shelf.new) refusal
-        × Leaves S.written S.faults S.is_sound (requested (map string_bytes words.now))
+        × Leaves S.written S.failures S.is_sound (requested (map string_bytes words.now))
         (H.held shelf.old) out.old out.new refusal
         × IsTold (E.is_sound faults.old) (names_in (requested (map string_bytes words.now))) refusal
         result.status
-        (E.written faults.old) (E.written faults.new) (E.faults faults.old) (E.faults faults.new)
+        (E.written faults.old) (E.written faults.new) (E.failures faults.old) (E.failures faults.new)
         × (H.is_sound shelf.old
         → IsMissingWhereFailed (H.held shelf.old)
         (names_in (requested (map string_bytes words.now))) refusal)) }
     ensures no_request { requested (map string_bytes words.now) ≡ None
         → (result.status ≡ 2) ⊎ (result.status ≡ 9) }
-    ensures read_failed { result.status ≡ 3 → Rose (H.faults shelf.old) (H.faults shelf.new) }
-    ensures write_failed { result.status ≡ 4 → Rose (S.faults out.old) (S.faults out.new) }
+    ensures read_failed { result.status ≡ 3 → Rose (H.failures shelf.old) (H.failures shelf.new) }
+    ensures write_failed { result.status ≡ 4 → Rose (S.failures out.old) (S.failures out.new) }
     ensures held { H.held shelf.new ≡ H.held shelf.old }
-    ensures shelf_faults { H.faults shelf.old ≤ H.faults shelf.new }
-    ensures out_faults { S.faults out.old ≤ S.faults out.new }
-    ensures faults_faults { E.faults faults.old ≤ E.faults faults.new }
+    ensures shelf_failures { H.failures shelf.old ≤ H.failures shelf.new }
+    ensures out_failures { S.failures out.old ≤ S.failures out.new }
+    ensures faults_failures { E.failures faults.old ≤ E.failures faults.new }
     ensures out_sound { S.is_sound out.old → result.status ≢ 4 }
     ensures shelf_stays_sound { H.is_sound shelf.old → H.is_sound shelf.new }
     ensures out_stays_sound { S.is_sound out.old → S.is_sound out.new }
@@ -252,18 +252,18 @@ fn answer_request<H: Shelf, S: Sink, E: Sink>(
         ⊎ (IsNone result.answer × (refusal : Refusal)
         × IsRefused (Some request.now) (H.held shelf.old) (H.asked shelf.old) (H.asked shelf.new)
         refusal
-        × Leaves S.written S.faults S.is_sound (Some request.now) (H.held shelf.old) out.old out.new
+        × Leaves S.written S.failures S.is_sound (Some request.now) (H.held shelf.old) out.old out.new
         refusal
         × IsTold (E.is_sound faults.old) (names_in (Some request.now)) refusal result.status
-        (E.written faults.old) (E.written faults.new) (E.faults faults.old) (E.faults faults.new)
+        (E.written faults.old) (E.written faults.new) (E.failures faults.old) (E.failures faults.new)
         × (H.is_sound shelf.old
         → IsMissingWhereFailed (H.held shelf.old) (names_in (Some request.now)) refusal)) }
-    ensures read_failed { result.status ≡ 3 → Rose (H.faults shelf.old) (H.faults shelf.new) }
-    ensures write_failed { result.status ≡ 4 → Rose (S.faults out.old) (S.faults out.new) }
+    ensures read_failed { result.status ≡ 3 → Rose (H.failures shelf.old) (H.failures shelf.new) }
+    ensures write_failed { result.status ≡ 4 → Rose (S.failures out.old) (S.failures out.new) }
     ensures held { H.held shelf.new ≡ H.held shelf.old }
-    ensures shelf_faults { H.faults shelf.old ≤ H.faults shelf.new }
-    ensures out_faults { S.faults out.old ≤ S.faults out.new }
-    ensures faults_faults { E.faults faults.old ≤ E.faults faults.new }
+    ensures shelf_failures { H.failures shelf.old ≤ H.failures shelf.new }
+    ensures out_failures { S.failures out.old ≤ S.failures out.new }
+    ensures faults_failures { E.failures faults.old ≤ E.failures faults.new }
     ensures out_sound { S.is_sound out.old → result.status ≢ 4 }
     ensures shelf_stays_sound { H.is_sound shelf.old → H.is_sound shelf.new }
     ensures out_stays_sound { S.is_sound out.old → S.is_sound out.new }
@@ -303,16 +303,16 @@ fn serve<H: Shelf, S: Sink>(
         (H.asked shelf.old) (H.asked shelf.new) (S.written out.old) (S.written out.new) (answer_in (Some request.now) told)) }
     ensures err { IfErr result (IsRefused (Some request.now) (H.held shelf.old) (H.asked shelf.old)
         (H.asked shelf.new)) }
-    ensures leaves { IfErr result (Leaves S.written S.faults S.is_sound (Some request.now)
+    ensures leaves { IfErr result (Leaves S.written S.failures S.is_sound (Some request.now)
         (H.held shelf.old) out.old out.new) }
     ensures of_file { IfErr result (IsOfFile (files_of request.now)) }
     ensures read_failed { IfErr result (λ refusal.
-        IsReadFailed refusal → Rose (H.faults shelf.old) (H.faults shelf.new)) }
+        IsReadFailed refusal → Rose (H.failures shelf.old) (H.failures shelf.new)) }
     ensures write_failed { IfErr result (λ refusal.
-        IsWriteFailed refusal → Rose (S.faults out.old) (S.faults out.new)) }
+        IsWriteFailed refusal → Rose (S.failures out.old) (S.failures out.new)) }
     ensures held { H.held shelf.new ≡ H.held shelf.old }
-    ensures shelf_faults { H.faults shelf.old ≤ H.faults shelf.new }
-    ensures out_faults { S.faults out.old ≤ S.faults out.new }
+    ensures shelf_failures { H.failures shelf.old ≤ H.failures shelf.new }
+    ensures out_failures { S.failures out.old ≤ S.failures out.new }
     ensures sound { H.is_sound shelf.old
         → IfErr result (IsMissingWhereFailed (H.held shelf.old) (files_of request.now)) }
     ensures out_sound { S.is_sound out.old → IfErr result (λ refusal. ¬ IsWriteFailed refusal) }
@@ -359,8 +359,8 @@ fn refuse<E: Sink>(alloc: Global, refusal: &Refusal, files: &List<Text>, faults:
     requires { IsOfFile files.now refusal.now }
     ensures told { IsTold (E.is_sound faults.old) files.now refusal.now result.status
         (E.written faults.old) (E.written faults.new)
-        (E.faults faults.old) (E.faults faults.new) }
-    ensures never_falls { E.faults faults.old ≤ E.faults faults.new }
+        (E.failures faults.old) (E.failures faults.new) }
+    ensures never_falls { E.failures faults.old ≤ E.failures faults.new }
     ensures stays_sound { E.is_sound faults.old → E.is_sound faults.new }
     ensures answer { IsNone result.answer }
     ensures log { result.log ≡ record { limit = 200000; nodes = [] } }

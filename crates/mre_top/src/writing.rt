@@ -1,7 +1,7 @@
 ghost use Rattle.std.specs.Prelude.{ℕ, ◌≡◌, ◌<◌, ◌≤◌, length, take, OnOk, OnErr, IsErrOf};
 ghost use Rattle.std.specs.List.{concat};
 ghost use Rattle.std.specs.Io.KnownBytes.{Appends};
-ghost use Rattle.mre_outside.specs.Faults.{Rose};
+ghost use Rattle.mre_outside.specs.Failures.{Rose};
 ghost use Rattle.mre_outside.specs.Sinks.{AppendsPrefix};
 
 use mre_base::{List, Text};
@@ -15,8 +15,8 @@ pub fn write_lines<S: Sink>(sink: &mut S, lines: &List<Text>) -> Result<(), Sink
         (concat lines.now)) }
     ensures no_memory { IsErrOf result SinkStop.NoMemory → (count : ℕ) × (count < length lines.now)
         × Appends (S.written sink.old) (S.written sink.new) (concat (take count lines.now)) }
-    ensures failed { IsErrOf result SinkStop.Failed → Rose (S.faults sink.old) (S.faults sink.new) }
-    ensures never_falls { S.faults sink.old ≤ S.faults sink.new }
+    ensures failed { IsErrOf result SinkStop.Failed → Rose (S.failures sink.old) (S.failures sink.new) }
+    ensures never_falls { S.failures sink.old ≤ S.failures sink.new }
     ensures sound { S.is_sound sink.old → ¬ IsErrOf result SinkStop.Failed }
     ensures stays_sound { S.is_sound sink.old → S.is_sound sink.new }
 {
@@ -33,8 +33,8 @@ fn write_line<S: Sink>(sink: &mut S, line: &Text) -> Result<(), SinkStop>
     ensures ok { OnOk result (Appends (S.written sink.old) (S.written sink.new) line.now) }
     ensures err { OnErr result (AppendsPrefix (S.written sink.old) (S.written sink.new) line.now) }
     ensures no_memory { IsErrOf result SinkStop.NoMemory → S.written sink.new ≡ S.written sink.old }
-    ensures failed { IsErrOf result SinkStop.Failed → Rose (S.faults sink.old) (S.faults sink.new) }
-    ensures never_falls { S.faults sink.old ≤ S.faults sink.new }
+    ensures failed { IsErrOf result SinkStop.Failed → Rose (S.failures sink.old) (S.failures sink.new) }
+    ensures never_falls { S.failures sink.old ≤ S.failures sink.new }
     ensures sound { S.is_sound sink.old → ¬ IsErrOf result SinkStop.Failed }
     ensures stays_sound { S.is_sound sink.old → S.is_sound sink.new }
 {

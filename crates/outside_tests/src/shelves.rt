@@ -1,3 +1,4 @@
+//! Shelves, sinks and streams, in memory and of the system.
 use mre_base::{List, NoMemory, Text};
 use mre_outside::{
     Act, FileShelf, MemoryShelf, MemorySink, PutStop, Shelf, ShelfStop, Sink, SinkStop, SoundSink,
@@ -19,7 +20,7 @@ fn numbers(alloc: Global, given: &[u32]) -> Result<List<u32>, NoMemory> {
     Ok(numbers)
 }
 
-/// Five files, each with its own name as its content and a dot behind it.
+/// Five files, each with its own name and a dot as its content.
 fn five_files(alloc: Global) -> Result<List<(Text, Text)>, NoMemory> {
     let mut files = List::empty(alloc);
     for (name, content) in [
@@ -42,7 +43,7 @@ fn write_lines(sink: &mut MemorySink) -> [Result<(), SinkStop>; 3] {
     answers
 }
 
-// The sink answers so to three lines, and has taken these bytes.
+// The sink gives these answers to three lines, and holds these bytes.
 fn assert_written(
     rt: &impl Abort,
     sink: &mut MemorySink,
@@ -249,21 +250,22 @@ impl Read for Script<'_> {
     }
 }
 
-// A writer that does these steps takes these of the bytes `abcdef`, and so many faults are counted.
+// A writer with these steps takes these of the bytes `abcdef`, and this number of failures is
+// counted.
 fn assert_taken(
     rt: &impl Abort,
     alloc: Global,
     steps: &[Step],
     succeeds: bool,
     taken: &str,
-    faults: u64,
+    failures: u64,
 ) {
     let mut script = Script::new(alloc, steps, b"");
     let mut count = 0;
     let written = write_to(&mut script, b"abcdef", &mut count);
     assert_eq!(rt; written.is_ok(), succeeds, "{taken}");
     assert_eq!(rt; script.taken.as_slice(), taken.as_bytes());
-    assert_eq!(rt; count, faults, "{taken}");
+    assert_eq!(rt; count, failures, "{taken}");
 }
 
 #[test]
@@ -308,7 +310,7 @@ fn a_reader_that_gives_little_or_fails(rt: HostRuntime) -> Result<(), Fail> {
             1,
         ),
     ];
-    for (steps, limit, answer, faults) in rows {
+    for (steps, limit, answer, failures) in rows {
         let mut script = Script::new(alloc, steps, b"abcdef");
         let room = Vec::with_capacity(alloc, limit as usize + 1)?;
         let mut count = 0;
@@ -316,7 +318,7 @@ fn a_reader_that_gives_little_or_fails(rt: HostRuntime) -> Result<(), Fail> {
             Ok(bytes) => assert_eq!(rt; (Ok(()), bytes.as_slice()), (answer, b"abcdef".as_slice())),
             Err(stop) => assert_eq!(rt; Err(stop), answer, "limit {limit}"),
         }
-        assert_eq!(rt; count, faults, "limit {limit}");
+        assert_eq!(rt; count, failures, "limit {limit}");
     }
     Ok(())
 }

@@ -1,4 +1,4 @@
--- `List` as a type that may stand inside the type of its own items: where it keeps them.
+-- `List` as a type that may occur in the type of its own items: where it keeps them.
 use mathlib.Core.Path.{◌≡◌, refl, sym}
 use mathlib.Core.List.{List, []}
 use mathlib.Core.Former.{Former, this, list, via, children}

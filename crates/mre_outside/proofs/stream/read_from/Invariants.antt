@@ -7,5 +7,5 @@ invariant-loop g l = record {
   consumed : Consumes (g.R.Read.remaining l.initial.reader) (g.R.Read.remaining l.reader) l.bytes.items;
   within : length l.bytes.items ≤ l.limit;
   room : l.limit + 1 ≤ vec_capacity l.bytes;
-  never_falls : l.initial.faults ≤ l.faults;
+  never_falls : l.initial.failures ≤ l.failures;
 }

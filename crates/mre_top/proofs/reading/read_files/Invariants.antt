@@ -8,5 +8,5 @@ invariant-loop-file g l = record {
   asked : g.H.Shelf.asked l.shelf ≡ asked_then (g.H.Shelf.asked l.fn.shelf) (reads (take l.file l.files));
   held : g.H.Shelf.held l.shelf ≡ g.H.Shelf.held l.fn.shelf;
   sound : g.H.Shelf.is_sound l.fn.shelf → g.H.Shelf.is_sound l.shelf;
-  never_falls : g.H.Shelf.faults l.fn.shelf ≤ g.H.Shelf.faults l.shelf;
+  never_falls : g.H.Shelf.failures l.fn.shelf ≤ g.H.Shelf.failures l.shelf;
 }

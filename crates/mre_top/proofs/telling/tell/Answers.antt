@@ -4,14 +4,15 @@ use Rattle.std.specs.Io.KnownBytes.{Appends}
 use Rattle.mre_top.specs.Refusals.{memory_line}
 use Rattle.mre_top.specs.Telling.{first_told}
 use Rattle.mre_top.proofs.SomeLines.{some_lines}
-use Rattle.mre_top.proofs.Written.{Appends-nothing, written_behind}
+use Rattle.mre_outside.proofs.Streams.{Appends-nothing}
+use Rattle.mre_top.proofs.Written.{written_behind}
 use Rattle.mre_top.proofs.telling.tell.Goals as goal
 
 pub returns-in_default-lines-clause-told : goal.returns-in_default-lines-clause-told
 returns-in_default-lines-clause-told g c =
     let sound = g.E.Sink.is_sound c.args.faults.now in
     let old = g.E.Sink.written c.args.faults.now in
-    let before = g.E.Sink.faults c.args.faults.now in
+    let before = g.E.Sink.failures c.args.faults.now in
     let new = c.tell_no_memory-in_default-lines.new.faults in
     let told = c.tell_no_memory-in_default-lines.ensures in
     inr (
@@ -19,7 +20,7 @@ returns-in_default-lines-clause-told g c =
       (
         0,
         some_lines c.args.files.now c.args.refusal.now,
-        written_behind sound sound (λ s. s) [] memory_line old old (g.E.Sink.written new) before before (g.E.Sink.faults new) (omega arith) (Appends-nothing old old refl) told.told,
+        written_behind sound sound (λ s. s) [] memory_line old old (g.E.Sink.written new) before before (g.E.Sink.failures new) (omega arith) (Appends-nothing old old refl) told.told,
       ),
     )
 
@@ -39,7 +40,7 @@ returns-clause-told g c =
         fewer,
         written_behind (g.E.Sink.is_sound old) (g.E.Sink.is_sound mid) c.write_lines.ensures.stays_sound
             (first_told c.args.files.now c.args.refusal.now first.0) memory_line
-            (g.E.Sink.written old) (g.E.Sink.written mid) (g.E.Sink.written new) (g.E.Sink.faults old) (g.E.Sink.faults mid) (g.E.Sink.faults new)
+            (g.E.Sink.written old) (g.E.Sink.written mid) (g.E.Sink.written new) (g.E.Sink.failures old) (g.E.Sink.failures mid) (g.E.Sink.failures new)
             c.write_lines.ensures.never_falls start told.told,
       ),
     )

@@ -10,8 +10,8 @@ returns-in-Err-clause-ended g c =
       c.in-Err.ensures.err,
       c.in-Err.ensures.leaves,
       subst
-          (λ names. IsTold (g.E.Sink.is_sound c.args.faults.now) names c.in-Err.refusal c.refuse.result.status (g.E.Sink.written c.args.faults.now) (g.E.Sink.written c.refuse.new.faults) (g.E.Sink.faults c.args.faults.now)
-          (g.E.Sink.faults c.refuse.new.faults))
+          (λ names. IsTold (g.E.Sink.is_sound c.args.faults.now) names c.in-Err.refusal c.refuse.result.status (g.E.Sink.written c.args.faults.now) (g.E.Sink.written c.refuse.new.faults) (g.E.Sink.failures c.args.faults.now)
+          (g.E.Sink.failures c.refuse.new.faults))
           c.files.ensures c.refuse.ensures.told,
       c.in-Err.ensures.sound,
     )

@@ -60,7 +60,7 @@ returns-clause-usage g c e =
     let held = g.H.Shelf.held c.args.shelf.now in
     elim c.run.ensures.ended [
       | inl done ↦ absurd (omega (arith, done.0))
-      | inr stopped ↦ status.usage (g.E.Sink.is_sound c.args.faults.now) asked held (g.H.Shelf.asked c.args.shelf.now) (g.H.Shelf.asked c.run.new.shelf) c.run.result.status (g.E.Sink.written c.args.faults.now) (g.E.Sink.written c.run.new.faults) (g.E.Sink.faults c.args.faults.now) (g.E.Sink.faults c.run.new.faults) stopped.1 stopped.2 stopped.4 e
+      | inr stopped ↦ status.usage (g.E.Sink.is_sound c.args.faults.now) asked held (g.H.Shelf.asked c.args.shelf.now) (g.H.Shelf.asked c.run.new.shelf) c.run.result.status (g.E.Sink.written c.args.faults.now) (g.E.Sink.written c.run.new.faults) (g.E.Sink.failures c.args.faults.now) (g.E.Sink.failures c.run.new.faults) stopped.1 stopped.2 stopped.4 e
     ]
 
 pub returns-clause-misread : goal.returns-clause-misread
@@ -69,7 +69,7 @@ returns-clause-misread g c e =
     let held = g.H.Shelf.held c.args.shelf.now in
     elim c.run.ensures.ended [
       | inl done ↦ absurd (omega (arith, done.0))
-      | inr stopped ↦ status.misread (g.E.Sink.is_sound c.args.faults.now) asked held (g.H.Shelf.asked c.args.shelf.now) (g.H.Shelf.asked c.run.new.shelf) c.run.result.status (g.E.Sink.written c.args.faults.now) (g.E.Sink.written c.run.new.faults) (g.E.Sink.faults c.args.faults.now) (g.E.Sink.faults c.run.new.faults) stopped.1 stopped.2 stopped.4 e
+      | inr stopped ↦ status.misread (g.E.Sink.is_sound c.args.faults.now) asked held (g.H.Shelf.asked c.args.shelf.now) (g.H.Shelf.asked c.run.new.shelf) c.run.result.status (g.E.Sink.written c.args.faults.now) (g.E.Sink.written c.run.new.faults) (g.E.Sink.failures c.args.faults.now) (g.E.Sink.failures c.run.new.faults) stopped.1 stopped.2 stopped.4 e
     ]
 
 pub returns-clause-disagree : goal.returns-clause-disagree
@@ -78,7 +78,7 @@ returns-clause-disagree g c e =
     let held = g.H.Shelf.held c.args.shelf.now in
     elim c.run.ensures.ended [
       | inl done ↦ absurd (omega (arith, done.0))
-      | inr stopped ↦ status.disagree (g.E.Sink.is_sound c.args.faults.now) asked held (g.H.Shelf.asked c.args.shelf.now) (g.H.Shelf.asked c.run.new.shelf) c.run.result.status (g.E.Sink.written c.args.faults.now) (g.E.Sink.written c.run.new.faults) (g.E.Sink.faults c.args.faults.now) (g.E.Sink.faults c.run.new.faults) stopped.1 stopped.2 stopped.4 e
+      | inr stopped ↦ status.disagree (g.E.Sink.is_sound c.args.faults.now) asked held (g.H.Shelf.asked c.args.shelf.now) (g.H.Shelf.asked c.run.new.shelf) c.run.result.status (g.E.Sink.written c.args.faults.now) (g.E.Sink.written c.run.new.faults) (g.E.Sink.failures c.args.faults.now) (g.E.Sink.failures c.run.new.faults) stopped.1 stopped.2 stopped.4 e
     ]
 
 pub returns-clause-past_limit : goal.returns-clause-past_limit
@@ -87,7 +87,7 @@ returns-clause-past_limit g c e =
     let held = g.H.Shelf.held c.args.shelf.now in
     elim c.run.ensures.ended [
       | inl done ↦ absurd (omega (arith, done.0))
-      | inr stopped ↦ status.past_limit (g.E.Sink.is_sound c.args.faults.now) asked held (g.H.Shelf.asked c.args.shelf.now) (g.H.Shelf.asked c.run.new.shelf) c.run.result.status (g.E.Sink.written c.args.faults.now) (g.E.Sink.written c.run.new.faults) (g.E.Sink.faults c.args.faults.now) (g.E.Sink.faults c.run.new.faults) stopped.1 stopped.2 stopped.4 e
+      | inr stopped ↦ status.past_limit (g.E.Sink.is_sound c.args.faults.now) asked held (g.H.Shelf.asked c.args.shelf.now) (g.H.Shelf.asked c.run.new.shelf) c.run.result.status (g.E.Sink.written c.args.faults.now) (g.E.Sink.written c.run.new.faults) (g.E.Sink.failures c.args.faults.now) (g.E.Sink.failures c.run.new.faults) stopped.1 stopped.2 stopped.4 e
     ]
 
 pub returns-clause-not_valid : goal.returns-clause-not_valid
@@ -96,7 +96,7 @@ returns-clause-not_valid g c e =
     let held = g.H.Shelf.held c.args.shelf.now in
     elim c.run.ensures.ended [
       | inl done ↦ absurd (omega (arith, done.0))
-      | inr stopped ↦ status.not_valid (g.E.Sink.is_sound c.args.faults.now) asked held (g.H.Shelf.asked c.args.shelf.now) (g.H.Shelf.asked c.run.new.shelf) c.run.result.status (g.E.Sink.written c.args.faults.now) (g.E.Sink.written c.run.new.faults) (g.E.Sink.faults c.args.faults.now) (g.E.Sink.faults c.run.new.faults) stopped.1 stopped.2 stopped.4 e
+      | inr stopped ↦ status.not_valid (g.E.Sink.is_sound c.args.faults.now) asked held (g.H.Shelf.asked c.args.shelf.now) (g.H.Shelf.asked c.run.new.shelf) c.run.result.status (g.E.Sink.written c.args.faults.now) (g.E.Sink.written c.run.new.faults) (g.E.Sink.failures c.args.faults.now) (g.E.Sink.failures c.run.new.faults) stopped.1 stopped.2 stopped.4 e
     ]
 
 pub returns-clause-not_cheapest : goal.returns-clause-not_cheapest
@@ -105,7 +105,7 @@ returns-clause-not_cheapest g c e =
     let held = g.H.Shelf.held c.args.shelf.now in
     elim c.run.ensures.ended [
       | inl done ↦ absurd (omega (arith, done.0))
-      | inr stopped ↦ status.not_cheapest (g.E.Sink.is_sound c.args.faults.now) asked held (g.H.Shelf.asked c.args.shelf.now) (g.H.Shelf.asked c.run.new.shelf) c.run.result.status (g.E.Sink.written c.args.faults.now) (g.E.Sink.written c.run.new.faults) (g.E.Sink.faults c.args.faults.now) (g.E.Sink.faults c.run.new.faults) stopped.1 stopped.2 stopped.4 e
+      | inr stopped ↦ status.not_cheapest (g.E.Sink.is_sound c.args.faults.now) asked held (g.H.Shelf.asked c.args.shelf.now) (g.H.Shelf.asked c.run.new.shelf) c.run.result.status (g.E.Sink.written c.args.faults.now) (g.E.Sink.written c.run.new.faults) (g.E.Sink.failures c.args.faults.now) (g.E.Sink.failures c.run.new.faults) stopped.1 stopped.2 stopped.4 e
     ]
 
 pub returns-clause-cut_short : goal.returns-clause-cut_short
@@ -114,7 +114,7 @@ returns-clause-cut_short g c e =
     let held = g.H.Shelf.held c.args.shelf.now in
     elim c.run.ensures.ended [
       | inl done ↦ absurd (omega (arith, done.0))
-      | inr stopped ↦ out_cut g.S.Sink.written g.S.Sink.faults g.S.Sink.is_sound asked held c.args.out.now c.run.new.out c.run.result.status stopped.1 stopped.3 (status.status_by (names_in asked) stopped.1 c.run.result.status _ _ _ _ stopped.4) e
+      | inr stopped ↦ out_cut g.S.Sink.written g.S.Sink.failures g.S.Sink.is_sound asked held c.args.out.now c.run.new.out c.run.result.status stopped.1 stopped.3 (status.status_by (names_in asked) stopped.1 c.run.result.status _ _ _ _ stopped.4) e
     ]
 
 pub returns-clause-out : goal.returns-clause-out
@@ -123,7 +123,7 @@ returns-clause-out g c zero write memory =
     let held = g.H.Shelf.held c.args.shelf.now in
     elim c.run.ensures.ended [
       | inl done ↦ absurd (zero done.0)
-      | inr stopped ↦ out_stays g.S.Sink.written g.S.Sink.faults g.S.Sink.is_sound asked held c.args.out.now c.run.new.out c.run.result.status stopped.1 stopped.3 (status.status_by (names_in asked) stopped.1 c.run.result.status _ _ _ _ stopped.4) write memory
+      | inr stopped ↦ out_stays g.S.Sink.written g.S.Sink.failures g.S.Sink.is_sound asked held c.args.out.now c.run.new.out c.run.result.status stopped.1 stopped.3 (status.status_by (names_in asked) stopped.1 c.run.result.status _ _ _ _ stopped.4) write memory
     ]
 
 pub returns-clause-out_in_want : goal.returns-clause-out_in_want
@@ -132,7 +132,7 @@ returns-clause-out_in_want g c e =
     let held = g.H.Shelf.held c.args.shelf.now in
     elim c.run.ensures.ended [
       | inl done ↦ absurd (omega (arith, done.0))
-      | inr stopped ↦ out_memory g.S.Sink.written g.S.Sink.faults g.S.Sink.is_sound asked held c.args.out.now c.run.new.out c.run.result.status stopped.1 stopped.3
+      | inr stopped ↦ out_memory g.S.Sink.written g.S.Sink.failures g.S.Sink.is_sound asked held c.args.out.now c.run.new.out c.run.result.status stopped.1 stopped.3
     ]
 
 pub returns-clause-due : goal.returns-clause-due
@@ -177,7 +177,7 @@ returns-clause-asked_in_vain g c e =
     let held = g.H.Shelf.held c.args.shelf.now in
     elim c.run.ensures.ended [
       | inl done ↦ absurd (omega (arith, done.0))
-      | inr stopped ↦ status.failed_read (g.E.Sink.is_sound c.args.faults.now) asked held (g.H.Shelf.asked c.args.shelf.now) (g.H.Shelf.asked c.run.new.shelf) c.run.result.status (g.E.Sink.written c.args.faults.now) (g.E.Sink.written c.run.new.faults) (g.E.Sink.faults c.args.faults.now) (g.E.Sink.faults c.run.new.faults) (g.H.Shelf.is_sound c.args.shelf.now) stopped.1 stopped.2 stopped.4 stopped.5 e
+      | inr stopped ↦ status.failed_read (g.E.Sink.is_sound c.args.faults.now) asked held (g.H.Shelf.asked c.args.shelf.now) (g.H.Shelf.asked c.run.new.shelf) c.run.result.status (g.E.Sink.written c.args.faults.now) (g.E.Sink.written c.run.new.faults) (g.E.Sink.failures c.args.faults.now) (g.E.Sink.failures c.run.new.faults) (g.H.Shelf.is_sound c.args.shelf.now) stopped.1 stopped.2 stopped.4 stopped.5 e
     ]
 
 pub returns-clause-sound : goal.returns-clause-sound
@@ -186,5 +186,5 @@ returns-clause-sound g c sound e =
     let held = g.H.Shelf.held c.args.shelf.now in
     elim c.run.ensures.ended [
       | inl done ↦ absurd (omega (arith, done.0))
-      | inr stopped ↦ status.lacking (g.E.Sink.is_sound c.args.faults.now) asked held (g.H.Shelf.asked c.args.shelf.now) (g.H.Shelf.asked c.run.new.shelf) c.run.result.status (g.E.Sink.written c.args.faults.now) (g.E.Sink.written c.run.new.faults) (g.E.Sink.faults c.args.faults.now) (g.E.Sink.faults c.run.new.faults) stopped.1 stopped.2 stopped.4 (stopped.5 sound) e
+      | inr stopped ↦ status.lacking (g.E.Sink.is_sound c.args.faults.now) asked held (g.H.Shelf.asked c.args.shelf.now) (g.H.Shelf.asked c.run.new.shelf) c.run.result.status (g.E.Sink.written c.args.faults.now) (g.E.Sink.written c.run.new.faults) (g.E.Sink.failures c.args.faults.now) (g.E.Sink.failures c.run.new.faults) stopped.1 stopped.2 stopped.4 (stopped.5 sound) e
     ]

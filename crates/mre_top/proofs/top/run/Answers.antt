@@ -26,8 +26,8 @@ returns-in-Ok-clause-ended g c =
     × (faults_new ≡ faults))
     ⊎ (IsNone outcome.answer × (refusal : Refusal)
     × IsRefused asks (g.H.Shelf.held shelf) (g.H.Shelf.asked shelf) (g.H.Shelf.asked shelf_new) refusal
-    × Leaves g.S.Sink.written g.S.Sink.faults g.S.Sink.is_sound asks (g.H.Shelf.held shelf) out out_new refusal
-    × IsTold (g.E.Sink.is_sound faults) (names_in asks) refusal outcome.status (g.E.Sink.written faults) (g.E.Sink.written faults_new) (g.E.Sink.faults faults) (g.E.Sink.faults faults_new)
+    × Leaves g.S.Sink.written g.S.Sink.failures g.S.Sink.is_sound asks (g.H.Shelf.held shelf) out out_new refusal
+    × IsTold (g.E.Sink.is_sound faults) (names_in asks) refusal outcome.status (g.E.Sink.written faults) (g.E.Sink.written faults_new) (g.E.Sink.failures faults) (g.E.Sink.failures faults_new)
     × (g.H.Shelf.is_sound shelf → IsMissingWhereFailed (g.H.Shelf.held shelf) (names_in asks) refusal)) in
     subst Ended (sym c.in-Ok.ensures.ok) c.answer_request.ensures.ended
 

@@ -6,6 +6,6 @@ use Rattle.mre_top.proofs.writing.write_lines.Given as goal
 abbrev pub invariant-loop-place : goal.invariant-loop-place
 invariant-loop-place g l = record {
   written : Appends (g.S.Sink.written l.fn.sink) (g.S.Sink.written l.sink) (concat (take l.place l.lines));
-  never_falls : g.S.Sink.faults l.fn.sink ≤ g.S.Sink.faults l.sink;
+  never_falls : g.S.Sink.failures l.fn.sink ≤ g.S.Sink.failures l.sink;
   sound : g.S.Sink.is_sound l.fn.sink → g.S.Sink.is_sound l.sink;
 }
