@@ -1,3 +1,5 @@
+//! Tests of the order of sets, of weights and of cubes.
+
 ghost use Rattle.std.specs.Prelude.{◌≤◌};
 ghost use Rattle.cube_kit.specs.Cubes.{IsWithin};
 

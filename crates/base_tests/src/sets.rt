@@ -1,3 +1,5 @@
+//! Tests of texts, lists, sets, the node log and the counter.
+
 ghost use Rattle.std.specs.Prelude.{◌≡◌, ◌+◌, ◌<◌};
 
 use mre_base::{Bits, List, Node, NodeLog, Places, PushStop, Steps, Text};

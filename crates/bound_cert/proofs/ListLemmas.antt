@@ -1,4 +1,4 @@
--- Lists: the item at a place, and what stands before and after it.
+-- Lists: the item at a place, and those before and after it.
 use Rattle.std.proofs.Common.{◌≡◌, ℕ, zero, suc, ◌+◌, List, [], ◌∷◌, ◌++◌, take, drop, map, Some, All, sym, ap, ◌∙◌, subst}
 use Rattle.std.specs.Prelude.{Contains, slice_get, Option, None, IfNone, IfSome}
 use Rattle.std.proofs.lemmas.List.{take_more, take-append-drop}

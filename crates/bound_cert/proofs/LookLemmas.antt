@@ -84,7 +84,7 @@ module _ (states : List BoundState) (wanted : BitSet) (place : ℕ) (ascending :
               true≢false (sym (subst (λ w. is_listed_before t.state w ≡ true) same (ascending place p t s at there higher)) ∙ rest place t at (omega arith))
 
 -- ---- listed states and their places
--- a state stands at a place with at most a number
+-- a state is at a place with at most a number
 pub record StandsWithin (states : List BoundState) (state : Numbers) (number : ℕ) : Type 0 where
   pub place : ℕ
   pub s : BoundState

@@ -35,7 +35,7 @@ lines_by atoms state hows.Expanded = OfExpanded state ∷ []
 lines_by atoms state (hows.Pruned cuts) =
     OfPruned state (cuts_meaning atoms cuts) ∷ cut_lines state.state [] (cuts_meaning atoms cuts)
 
--- the lines of a state of a task with so many atoms
+-- the lines of a state of a task with this number of atoms
 abbrev pub state_lines : ℕ → BoundState → List Line
 state_lines atoms s = lines_by atoms (numbered s) s.how
 

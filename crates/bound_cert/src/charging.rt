@@ -8,7 +8,7 @@ ghost use Rattle.bound_cert.specs.Rooms.{charge_by, AreCharged};
 use mre_base::Bits;
 use task_kit::{TaskView, price_of};
 
-// What an action is charged once a cut is added, where that is no more than it costs.
+// What an action is charged once a cut is added, if that isn't more than it costs.
 fn charge_one<T: TaskView>(
     task: &T,
     action: u32,
@@ -40,7 +40,7 @@ fn charge_one<T: TaskView>(
     Some(sum)
 }
 
-/// Charges the actions that a cut counts, and tells whether each is charged at most its cost.
+/// Charges the actions that a cut counts, and answers whether each is charged at most its cost.
 pub fn charge<T: TaskView>(task: &T, weight: u64, among: &Bits, charged: &mut Vec<u64>) -> bool
     requires width { among.now.width ≡ (T.seen task.now).atoms + 1 }
     requires in_range { weight ≤ most }

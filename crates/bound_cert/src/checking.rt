@@ -1,3 +1,5 @@
+//! The check of bound proofs.
+
 ghost use Rattle.std.specs.Prelude.{ℕ, ◌≡◌, ◌+◌, ◌^◌, ◌≤◌, ◌<◌, ◌↔◌, false, length, All, IsTrue};
 ghost use Rattle.std.specs.Prelude.{IsOk, IfErr, IfSome, IfNone};
 ghost use Rattle.task_kit.specs.Bounds.{HasNoCheaper};

@@ -1,3 +1,5 @@
+//! Bound proofs, and their first fault.
+
 use mre_base::{Bits, List};
 use task_kit::Cuts;
 

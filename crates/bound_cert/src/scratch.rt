@@ -1,3 +1,5 @@
+//! The room that a check works in.
+
 ghost use Rattle.std.specs.Prelude.{◌≡◌, ◌+◌, ◌^◌, ◌<◌, IfOk};
 ghost use Rattle.bound_cert.specs.Rooms.{all_below, IsScratchOf};
 

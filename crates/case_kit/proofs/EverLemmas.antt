@@ -1,4 +1,4 @@
--- An action has a cost after some set of differences exactly where some number stands in its cost.
+-- An action has a cost after some set of differences exactly where there is a number in its cost.
 use Rattle.std.proofs.Common.{◌≡◌, ℕ, true, ◌||◌, not, cond, is_some, [], Option, None, Some, refl, sym, ap, ◌∙◌}
 use Rattle.std.specs.Prelude.{IsSome}
 use Rattle.std.specs.Ordering.{nat_cmp}

@@ -18,7 +18,7 @@ use Rattle.case_kit.proofs.CaseLists.{where_below}
 use Rattle.case_kit.proofs.SoundLemmas.{cases_below, action_sound}
 use Rattle.case_kit.proofs.RelaxedLemmas.{action_there}
 
--- a cube of the differences has what it tells as a member
+-- a cube of the differences has its told set as a member
 pub cube_live : (table : CaseTable) (cube : CubeMeaning) → IsCube table.d cube → is_member cube cube.told ≡ true
 cube_live table cube whole = told_is_member table.d cube whole
 

@@ -150,7 +150,7 @@ worst_wanted cube (first ∷ cases) k (case, among, e) not_left =
       | inr later ↦ with_more cube first.when (worst cube cases) k (worst_wanted cube cases k (case, later, e) not_left)
     ]
 
--- no number stands in the cases both as one to be told and as one to be left
+-- no number is in the cases both as one to be told and as one to be left
 abbrev pub IsOneWay : List Case → Type 0
 IsOneWay cases = (place : ℕ) → StandsAmong cases (IfTold place) → StandsAmong cases (IfLeft place) → ⊥
 

@@ -21,7 +21,7 @@ use Rattle.case_kit.specs.Evaluated.{must_hold, counts, best_of, value_by, cost_
 use Rattle.case_kit.proofs.BestLemmas.{Bounds, bounds-itself, bounds-trans, best_first, best_second, best_picks}
 use Rattle.case_kit.proofs.MemberLemmas.{IsMoved, move_in, move_out, must_holds, holds_may, IsSomewhere, may_somewhere, must_not_somewhere}
 
--- ---- what a place decides: the first where the cube tells it, the second where it leaves it, else the better of the two
+-- ---- what a place decides: the first if the cube has it told, the second if it has it left, else the better of the two
 abbrev pub decided : Way → Bool → Bool → Option ℕ → Option ℕ → Option ℕ
 decided way told left x y = cond told x (cond left y (best_of way x y))
 
@@ -56,7 +56,7 @@ choose way cube from place x y member = by (set.contains cube.told place) (set.c
       ]
 
 -- ---- values
--- another member, which differs at most at the numbers that stand there
+-- another member, which differs at most at the numbers there
 pub record IsAdapted (cube : CubeMeaning) (from : Told) (stands : ℕ → Bool) (to : Told) : Type 0 where
   pub member : is_member cube to ≡ true
   pub others : (k : ℕ) → stands k ≡ false → set.contains to k ≡ set.contains from k

@@ -56,7 +56,7 @@ module _ (table : CaseTable) where
   pub action_sound : (i : ℕ) (action : CaseAction) → slice_get table.actions i ≡ Some action → IsCaseAction table.d table.atoms action
   action_sound i action at = item_of (IsCaseAction table.d table.atoms) table.actions i action at table.sound.each
 
-  -- no number stands both ways in a part of the table
+  -- no number is both ways in a part of the table
   pub start_one_way : IsOneWay table.start
   start_one_way place told left = table.sound.one_way place (inl told) (inl left)
 

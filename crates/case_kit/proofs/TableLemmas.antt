@@ -90,7 +90,7 @@ task_agree helps hinders cost helps' hinders' cost' table more less same =
     λ i. record { atoms = table.atoms; start = start i; goal = goal i; actions = actions i }
 
 -- ---- cubes that have decided every difference
--- of each difference the cube tells what the set has and leaves what it lacks
+-- the cube has told what the set has, and left what it lacks
 pub record IsDecidedAs (d : ℕ) (cube : CubeMeaning) (s : Told) : Type 0 where
   pub told : (k : ℕ) → is_listed d k ≡ true → set.contains cube.told k ≡ set.contains s k
   pub left : (k : ℕ) → is_listed d k ≡ true → set.contains cube.left k ≡ not (set.contains s k)

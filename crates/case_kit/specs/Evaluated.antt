@@ -1,5 +1,5 @@
--- The two tasks of a cube without its members: each condition by what the cube tells and leaves,
--- and where neither is so, by the side that a task takes.
+-- The two tasks of a cube without its members: each condition by what the cube has told and left, and
+-- where it is open, by the side that a task takes.
 use Rattle.std.specs.Prelude.{ℕ, Bool, true, not, if◌then◌else◌, List, map, filter, Option, None}
 use Rattle.std.specs.Prelude.{Some, min, max}
 use Rattle.std.specs.FinSet as set

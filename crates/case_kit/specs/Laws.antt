@@ -23,8 +23,8 @@ pub record RelaxedLaw : Type 0 where
       → is_member cube cube.told ≡ true →
       IsRestrictive table cube task ↔ (task ≡ restrictive table cube)
 
--- members that agree on the differences are one; both tasks of a cube that has decided every
--- difference are the member of what it tells
+-- members that agree on the differences are equal; both tasks of a cube that has decided every
+-- difference are the member of its told set
 pub record MemberLaw : Type 0 where
   pub agree : (table : CaseTable) (told other : Told)
       → ((place : ℕ) → is_listed table.d place ≡ true

@@ -1,4 +1,4 @@
--- Where differences stand in the parts of a case table, and where numbers do.
+-- The differences and the numbers in the parts of a case table.
 use Rattle.std.specs.Prelude.{ℕ, ◌==◌, Bool, false, ◌||◌, is_some, List}
 use Rattle.std.specs.List.{list_any}
 use Rattle.case_kit.specs.declared.cases.When.{When}
@@ -10,7 +10,7 @@ use Rattle.case_kit.specs.declared.costs.CaseCost.{CaseCost}
 use Rattle.case_kit.specs.declared.costs.CaseCost.TheVariants as costs
 use Rattle.case_kit.specs.declared.action.CaseAction.{CaseAction}
 
--- the difference stands in the value, in the cost
+-- the difference is in the value, in the cost
 abbrev pub stands_in_value : CaseValue → ℕ → Bool
 stands_in_value (values.One value) k = false
 stands_in_value (values.Two place told left) k = place == k
@@ -20,7 +20,7 @@ stands_in_cost (costs.One value) k = stands_in_value value k
 stands_in_cost (costs.Two place told left) k =
     place == k || (stands_in_value told k || stands_in_value left k)
 
--- some number stands in the value, in the cost
+-- some number is in the value, in the cost
 abbrev pub has_value : CaseValue → Bool
 has_value (values.One value) = is_some value
 has_value (values.Two place told left) = is_some told || is_some left
@@ -35,7 +35,7 @@ speaks_of Always k = false
 speaks_of (IfTold place) k = place == k
 speaks_of (IfLeft place) k = place == k
 
--- the difference stands among the cases
+-- the difference is among the cases
 abbrev pub stands_among : List Case → ℕ → Bool
 stands_among cases k = list_any (λ case. speaks_of case.when k) cases
 

@@ -26,7 +26,7 @@ AreOfEvery cube of_member numbers =
     (k : ℕ) → (set.contains numbers k ≡ true)
     ↔ EveryMember cube (λ told. set.contains (of_member told) k ≡ true)
 
--- the first cost is no greater than the second; an absent cost is above every number
+-- the first cost is at most the second; an absent cost is above every number
 abbrev pub IsNoDearer : Option ℕ → Option ℕ → Type 0
 IsNoDearer one None = Unit {0}
 IsNoDearer None (Some other) = ⊥

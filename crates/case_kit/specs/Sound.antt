@@ -1,5 +1,5 @@
--- What a case table may hold. Differences count from 1 to d and atoms from 0, and the number of
--- atoms stands for what can never be true.
+-- What a case table may hold. Differences count from 1 to d and atoms from 0, and the number of atoms
+-- means what can never be true.
 use Rattle.std.specs.Prelude.{ℕ, ◌+◌, ◌≡◌, ◌≤◌, ◌<◌, Bool, true, ◌&&◌, not, List, length, All}
 use Rattle.std.specs.Prelude.{Contains, ◌⊎◌}
 use Rattle.cube_kit.specs.Cubes.{is_listed}
@@ -34,7 +34,7 @@ is_apart (costs.One value) = true
 is_apart (costs.Two place told left) =
     not (stands_in_value told place) && not (stands_in_value left place)
 
--- the difference of a condition stands nowhere in the cost
+-- the difference of a condition is nowhere in the cost
 abbrev pub is_beside : CaseCost → When → Bool
 is_beside cost Always = true
 is_beside cost (IfTold place) = not (stands_in_cost cost place)
@@ -45,8 +45,7 @@ pub record IsCase (d bound : ℕ) (case : Case) : Type 0 where
   pub below : case.atom < bound
   pub listed : is_listed_in d case.when ≡ true
 
--- an action's atoms and differences are in their ranges, and no difference stands twice in what
--- decides its cost
+-- an action's atoms and differences are in their ranges, and no difference decides its cost twice
 pub record IsCaseAction (d atoms : ℕ) (action : CaseAction) : Type 0 where
   pub pre : All (IsCase d (atoms + 1)) action.pre
   pub add : All (IsCase d atoms) action.add
@@ -56,7 +55,7 @@ pub record IsCaseAction (d atoms : ℕ) (action : CaseAction) : Type 0 where
   pub apart : is_apart action.cost ≡ true
   pub beside : is_beside action.cost action.known ≡ true
 
--- the condition stands among the cases, in the action, in the table
+-- the condition is among the cases, in the action, in the table
 abbrev pub StandsAmong : List Case → When → Type 0
 StandsAmong cases when = (case : Case) × Contains cases case × (case.when ≡ when)
 
@@ -79,6 +78,6 @@ pub record IsCaseTable (d atoms : ℕ) (start goal : List Case)
   pub starts : All (IsCase d atoms) start
   pub goals : All (IsCase d (atoms + 1)) goal
   pub each : All (IsCaseAction d atoms) actions
-  -- no difference stands both in a condition on what is told and in one on what is left
+  -- no difference is both in a condition on what is told and in one on what is left
   pub one_way : (place : ℕ) → Stands start goal actions (IfTold place)
       → Stands start goal actions (IfLeft place) → ⊥

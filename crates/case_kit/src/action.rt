@@ -1,3 +1,5 @@
+//! A ground action of a case table.
+
 ghost use Rattle.std.specs.Prelude.{◌≡◌};
 ghost use Rattle.case_kit.specs.Parts.{stands_among, touches};
 

@@ -1,3 +1,5 @@
+//! Cases: an atom, and when it is there.
+
 ghost use Rattle.std.specs.Prelude.{◌≡◌};
 ghost use Rattle.case_kit.specs.Parts.{speaks_of};
 

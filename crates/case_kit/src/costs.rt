@@ -1,3 +1,5 @@
+//! Costs by what is told.
+
 ghost use Rattle.std.specs.Prelude.{◌≡◌, ◌↔◌, IsTrue, IsSome};
 ghost use Rattle.cube_kit.specs.Cubes.{Told};
 ghost use Rattle.case_kit.specs.declared.cases.When.{When};
@@ -51,9 +53,8 @@ impl CaseValue {
 impl CaseCost {
     ghost use Rattle.case_kit.specs.Members.{cost_if_known};
 
-    /// Whether some number stands in the cost. Then, and only then, there is a set of differences
-    /// after which an action has a cost, whatever
-    /// the condition under which it is known.
+    /// Whether there is a number in the cost. Then, and only then, there is a set of differences after
+    /// which an action has a cost, whatever the condition under which it is known.
     pub fn has_number(self) -> bool
         requires { IsTrue (is_apart self) }
         ensures { (known : When) → IsTrue (is_beside self known) →

@@ -1,3 +1,5 @@
+//! Laws of relaxed tasks: they bound the members of their cube.
+
 ghost use Rattle.case_kit.specs.Laws.{ChildLaw, ListLaw, MemberLaw, RelaxedLaw};
 ghost use Rattle.case_kit.specs.Sums.{SumLaw};
 

@@ -1,3 +1,5 @@
+//! A case table: two models in one table on numbers.
+
 ghost use Rattle.std.specs.Prelude.{◌≡◌, ◌<◌, length, IfOk};
 ghost use Rattle.task_kit.specs.Kept.{action_meaning};
 ghost use Rattle.task_kit.specs.Tasks.{IsAction, as_bits, action_at, cost_at};
@@ -14,9 +16,8 @@ use mre_base::{Bits, Copied, List, NoMemory};
 use std::alloc::Global;
 use task_kit::{Task, TaskAction};
 
-/// The tasks of all sets of the differences 1 to `d`: each condition and each cost says how it is
-/// where a set is told and the rest is
-/// left. Atoms count from 0, and `atoms` stands for all that can never be true.
+/// The tasks of all sets of the differences 1 to `d`: each condition and each cost says how it is where
+/// a set is told and the rest is left. Atoms count from 0, and `atoms` means all that can never be true.
 #[derive(Debug)]
 pub struct CaseTable {
     pub d: u32,

@@ -65,7 +65,7 @@ pub fn atoms_by(
     Ok(atoms)
 }
 
-/// The set of the atoms of the cases that count, as wide as the sets of a task with so many atoms.
+/// The set of the atoms of the cases that count, as wide as the sets of a task with `atoms` atoms.
 pub fn set_by(
     alloc: Global,
     atoms: u32,

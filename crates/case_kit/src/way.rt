@@ -1,3 +1,5 @@
+//! The two relaxed tasks of a cube.
+
 ghost use Rattle.std.specs.Prelude.{◌≡◌};
 ghost use Rattle.case_kit.specs.Evaluated.{opposite};
 

@@ -1,3 +1,5 @@
+//! Tests of case tables.
+
 ghost use Rattle.std.specs.Prelude.{◌≡◌, ◌≤◌, IsTrue, IfOk};
 ghost use Rattle.case_kit.specs.Sound.{is_apart};
 ghost use Rattle.cube_kit.specs.Cubes.{IsCube};

@@ -36,7 +36,7 @@ IsWeight task actions left among None =
     (action : ℕ) → action < actions → is_counted task action among ≡ false
 IsWeight task actions left among (Some weight) = IsLeastLeft task actions left among weight
 
--- the set has the state, lacks a goal atom, and has atoms alone
+-- the set has the state, lacks a goal atom, and has only atoms
 pub record IsCutSet (task : TaskMeaning) (state among : Numbers) : Type 0 where
   pub has_state : set.is_subset state among ≡ true
   pub lacks_goal : set.is_subset task.goal among ≡ false

@@ -1,4 +1,4 @@
--- Whether actions that wait for atoms are of a task.
+-- When actions that wait for atoms are those of a task.
 use Rattle.std.specs.Prelude.{ℕ, ◌<◌, Option, List, All}
 use Rattle.std.specs.Option.{ForSome}
 

@@ -115,8 +115,7 @@ fn is_above_0(least: Option<u64>) -> bool
 }
 
 /// Chooses the set of the next cut of a state, given the closure of the state. The closure is taken
-/// only where the proposed set is none
-/// of a cut, or has a free way out.
+/// only where the proposed set isn't that of a cut, or has a free way out.
 pub fn choose<T: TaskView>(
     alloc: Global,
     task: &T,

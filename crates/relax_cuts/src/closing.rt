@@ -49,8 +49,8 @@ fn put_adds<T: TaskView>(
     Ok(())
 }
 
-// Puts what an action adds into the set, where the action is usable, or lets it wait for its least
-// missing precondition.
+// Puts what an action adds into the set, if the action is usable; else it waits for its least missing
+// precondition.
 fn look_at<T: TaskView>(
     task: &T,
     left: &Vec<u64>,

@@ -1,3 +1,5 @@
+//! The cuts of a state.
+
 ghost use Rattle.std.specs.Prelude.{◌≡◌, ◌+◌, ◌≤◌, ◌<◌, All, IfOk};
 ghost use Rattle.std.specs.List.Sorted.{IsStrictlyIncreasing};
 ghost use Rattle.relax_cuts.specs.FreeClosure.{AreForced};

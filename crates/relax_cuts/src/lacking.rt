@@ -1,3 +1,5 @@
+//! The atoms that a set lacks.
+
 ghost use Rattle.std.specs.Prelude.{◌≡◌, ◌<◌, ◌≤◌, All, IfOk};
 ghost use Rattle.std.specs.List.Sorted.{IsStrictlyIncreasing};
 ghost use Rattle.task_kit.specs.Kept.{all_but};

@@ -54,7 +54,7 @@ impl Values {
             .unwrap_or(None)
     }
 
-    // Gives an atom a value, unless it has one that is no greater.
+    // Gives an atom a value, unless it has one that is at most as great.
     fn lower(&mut self, atom: u32, value: u64) -> Result<(), NoMemory> {
         let at = atom as usize;
         if at < self.of_atoms.len() && is_above(self.of_atoms[at], value) {
@@ -106,9 +106,9 @@ pub struct Front {
     values: Values,
 }
 
-// Looks at an action after an atom came in: lowers the values of what it adds where it is
-// applicable now, or lets it wait. As atoms come in
-// by their values, the last precondition to come in is that with the greatest value.
+// Expands an action after an atom came in: lowers the values of what it adds, if it is applicable now;
+// else it waits. As atoms come in by their values, the last precondition to come in is that with the
+// greatest value.
 fn look_at<T: TaskView>(
     task: &T,
     left: &Vec<u64>,

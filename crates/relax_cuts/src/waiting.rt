@@ -1,13 +1,13 @@
-//! Actions that wait for an atom, so that each is looked at again only where one of its
-//! preconditions has come in.
+//! Actions that wait for an atom, so that each is tried again only after one of its preconditions has
+//! come in.
 ghost use Rattle.std.specs.Prelude.{◌<◌, length, All, IfOk, IfSome, OnOk};
 ghost use Rattle.relax_cuts.specs.Waiting.{IsBelow, AreBelow};
 
 use mre_base::NoMemory;
 use std::alloc::Global;
 
-/// For each atom, the actions that wait for it, and the actions that wait no more. An action waits
-/// for one atom at a time.
+/// For each atom, the actions that wait for it, and the actions that are ready. An action waits for one
+/// atom at a time.
 pub struct Waiting {
     // The last action that began to wait for an atom.
     last: Vec<Option<u32>>,
@@ -32,7 +32,7 @@ impl Drop for Waiting {
 impl Waiting {
     ghost use Rattle.relax_cuts.specs.WaitingSize.{HasRoom, IsAsLarge};
 
-    /// Room for so many atoms and actions, none of which waits.
+    /// Room for this number of atoms and actions, none of which waits.
     pub fn empty(alloc: Global, atoms: u32, actions: u32) -> Result<Waiting, NoMemory>
         ensures { IfOk result (λ made. HasRoom atoms actions made) }
     {
@@ -68,7 +68,7 @@ impl Waiting {
         Ok(())
     }
 
-    /// An action that waits no more and wasn't looked at yet.
+    /// A ready action that wasn't tried yet.
     pub fn next(&mut self) -> Option<u32>
         ensures listed { IfSome result (λ action. action < length self.old.before.items) }
         ensures room { IsAsLarge self.old self.new }

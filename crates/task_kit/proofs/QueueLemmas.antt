@@ -1,4 +1,4 @@
--- What a permutation with one pair more or less does to the places that wait.
+-- What a permutation with one pair more or less does to the open places.
 use Rattle.std.proofs.Common.{◌≡◌, ℕ, zero, suc, List, ◌∷◌, map, Contains, ◌⊎◌, inl, inr, refl, sym, ap, subst, arith}
 use Rattle.std.specs.declared.cmp.Reverse.{Reverse}
 use Rattle.std.specs.List.Sorted.{IsPermutation}

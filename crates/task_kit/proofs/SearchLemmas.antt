@@ -1,4 +1,4 @@
--- A plain search, step by step: what a noted successor leaves, what is settled, and what is shown when nothing waits.
+-- A plain search, step by step: what a noted successor leaves, what is settled, and what is shown when nothing is open.
 use Rattle.std.proofs.Common.{◌≡◌, ◌≢◌, ℕ, zero, suc, ◌+◌, ◌-◌, ◌*◌, ◌^◌, ◌≤◌, ◌<◌, true, false, is_some, List, [], ◌∷◌, ◌++◌, length, reverse, Option, Some, None, slice_get, ◌⊎◌, inl, inr, refl, sym, ap, ◌∙◌, subst, arith, unwrap_or}
 use Rattle.std.proofs.lemmas.Bool.{false≢true, and_parts}
 use Rattle.std.proofs.lemmas.List.{reverse-append, append_assoc}
@@ -56,7 +56,7 @@ back_more ways place at back new way later here e is rest more =
 pub back_all : (ways : List Way) (place at : ℕ) (back : List ℕ) → at ≡ 0 → ((rest : List ℕ) → IsWayBack ways at rest → IsWayBack ways place (back ++ rest)) → IsWayBack ways place back
 back_all ways place at back e is = subst (IsWayBack ways place) (nothing_more back) (is [] e)
 
--- what waits plays no part in the way back
+-- the open list plays no part in the way back
 pub back_over : (r s : Reached) (place : ℕ) (back : List ℕ) → s ≡ record { states = r.states; last = r.last; ways = r.ways; waiting = s.waiting } → IsWayBack s.ways place back → IsWayBack r.ways place back
 back_over r s place back e is = subst (λ x. IsWayBack x.ways place back) e is
 
@@ -222,7 +222,7 @@ module _ (task : TaskMeaning) where
         ]
       ]
 
-  -- a way that is too dear, or beaten, is done as it stands
+  -- a way that is too dear, or beaten, is done as it is
   pub done_dear : (k : ℕ) (r : Reached) (way : Way) → k ≤ way.cost → IsDone task k r way
   done_dear k r way dear state leads = inl dear
 
@@ -242,7 +242,7 @@ module _ (task : TaskMeaning) where
   pub unlisted : (k : ℕ) (r : Reached) (state : Numbers) (cost action : ℕ) → length task.actions ≤ action → IsReached task k r state cost action
   unlisted k r state cost action past does = absurd (false≢true (sym (ap (λ a. is_some a.cost) (none_at task.actions action past)) ∙ (and_parts _ _ does).0))
 
-  -- ---- when nothing waits
+  -- ---- when nothing is open
   shown : (k : ℕ) (r : Reached) → IsTrail task r → AreSettled task k r → ((at : ℕ) → ¬ Waits r.waiting at) → Shows task k (IsKnown task r)
   shown k r trail settled empty = record { start = λ low. trail.start; each = each } where
     far : (state : Numbers) (number cost : ℕ) → cost ≡ number → k ≤ cost → IsFar task k state number
@@ -350,7 +350,7 @@ module _ (task : TaskMeaning) where
       bound_falls None e = omega arith
       bound_falls (Some place) h = omega (arith, h.0)
 
-  -- one way was taken out of those that wait
+  -- one way was taken out of the open list
   module _ (r : Reached) (left : List (ℕ × ℕ)) (at : ℕ) (takes : Takes r.waiting at left) where
     abbrev rest_of : Reached
     rest_of = record { states = r.states; last = r.last; ways = r.ways; waiting = left }

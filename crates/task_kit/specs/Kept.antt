@@ -32,10 +32,10 @@ task_meaning atoms start goal actions =
 abbrev pub all_but : ℕ → List ℕ → Numbers
 all_but bound lacks = set_below (λ k. not (set.contains (set_of lacks) k)) bound
 
--- what a cut means in a task with so many atoms
+-- what a cut means in a task with this number of atoms
 abbrev pub cut_meaning : ℕ → Cut → CutMeaning
 cut_meaning atoms cut = record { weight = cut.weight; among = all_but atoms cut.lacks }
 
--- what the cuts of a state mean in a task with so many atoms
+-- what the cuts of a state mean in a task with this number of atoms
 abbrev pub cuts_meaning : ℕ → List Cut → List CutMeaning
 cuts_meaning atoms cuts = map (cut_meaning atoms) cuts

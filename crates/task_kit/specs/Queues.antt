@@ -1,7 +1,7 @@
 -- A queue of places with costs, as the list of its pairs in no particular order.
 use Rattle.std.specs.Prelude.{ℕ, ◌+◌, ◌≡◌, List, length, Contains, ◌⊎◌}
 
--- the place waits in the queue, with some cost
+-- the place is in the queue, with some cost
 abbrev pub Waits : List (ℕ × ℕ) → ℕ → Type 0
 Waits queue place = (cost : ℕ) × Contains queue (cost, place)
 

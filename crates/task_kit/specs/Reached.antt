@@ -1,12 +1,12 @@
--- What a plain search keeps: the states that it reached, the ways to them, and the ways that still
--- wait to be looked at.
+-- What a plain search keeps: the states that it reached, the ways to them, and the open list: the
+-- ways that are still to be expanded.
 use Rattle.std.specs.Prelude.{ℕ, ◌≡◌, ◌≤◌, ◌<◌, List, [], ◌∷◌, ◌++◌, length, Some, slice_get, ◌⊎◌}
 use Rattle.mre_base.specs.Sets.{BitSet}
 use Rattle.task_kit.specs.declared.reached.Way.{Way}
 use Rattle.task_kit.specs.declared.reached.Table.{Table}
 use Rattle.task_kit.specs.Queues.{Puts}
 
--- the states, the last way to each of them, all ways, and those that wait
+-- the states, the last way to each of them, all ways, and the open ones
 pub record Reached : Type 0 where
   pub states : List BitSet
   pub last : List ℕ
@@ -23,7 +23,7 @@ reached table =
       waiting = table.waiting;
     }
 
--- what stood in the list stands at the same place
+-- each item of the list is at the same place
 abbrev pub StaysIn : {A : Type 0} → List A → List A → Type 0
 StaysIn {A} old new =
     (place : ℕ) (x : A) → slice_get old place ≡ Some x → slice_get new place ≡ Some x
@@ -51,7 +51,7 @@ IsBeaten r way =
 abbrev pub nothing : Reached
 nothing = record { states = []; last = []; ways = []; waiting = [] }
 
--- a way to the state was added, and waits
+-- a way to the state was added, and is open
 pub record Adds (old : Reached) (state : BitSet) (cost parent action : ℕ)
     (new : Reached) : Type 0 where
   pub place : ℕ

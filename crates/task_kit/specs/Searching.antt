@@ -33,7 +33,7 @@ pub record IsStep (task : TaskMeaning) (r : Reached) (at : ℕ) (way : Way) : Ty
   pub to : LeadsTo task r way (after task way.action state)
   pub costs : way.cost ≡ parent.cost + price task way.action
 
--- the ways go out from the start, the start is reached, and what waits are ways
+-- the ways go out from the start, the start is reached, and the open list has ways
 pub record IsTrail (task : TaskMeaning) (r : Reached) : Type 0 where
   pub indexed : IsIndexed r
   pub each : (at : ℕ) (way : Way) → slice_get r.ways at ≡ Some way
@@ -41,7 +41,7 @@ pub record IsTrail (task : TaskMeaning) (r : Reached) : Type 0 where
   pub start : IsKnown task r task.start 0
   pub waits : (at : ℕ) → Waits r.waiting at → at < length r.ways
 
--- what was there is there, and each new way waits
+-- what was there is there, and each new way is open
 pub record Grows (old new : Reached) : Type 0 where
   pub states : StaysIn old.states new.states
   pub ways : StaysIn old.ways new.ways
@@ -65,7 +65,7 @@ IsDone task k r way =
     (k ≤ way.cost) ⊎ IsExpanded task k (IsKnown task r) state way.cost
     ⊎ ((smaller : ℕ) × IsKnown task r state smaller × (smaller < way.cost))
 
--- each way waits, or nothing is left to do for it
+-- each way is open, or nothing is left to do for it
 abbrev pub AreSettled : TaskMeaning → ℕ → Reached → Type 0
 AreSettled task k r =
     (at : ℕ) (way : Way) → slice_get r.ways at ≡ Some way → Waits r.waiting at ⊎ IsDone task k r way

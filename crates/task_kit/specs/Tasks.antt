@@ -1,7 +1,6 @@
--- Tasks on numbers, after STRIPS. Atoms and ground actions are numbers from 0 on, and a state is
--- the set of its true atoms.
--- In a task with n atoms the number n stands for whatever can never be true: it may be asked for,
--- and no state has it.
+-- Tasks on numbers, after STRIPS. Atoms and ground actions are numbers from 0 on, and a state is the
+-- set of its true atoms. In a task with n atoms the number n means whatever can never be true: it may
+-- be a precondition, and no state has it.
 use Rattle.std.specs.Prelude.{ℕ, ◌+◌, ◌^◌, ◌≡◌, ◌<◌, Bool, true, false, ◌&&◌, not, is_some, List}
 use Rattle.std.specs.Prelude.{[], ◌∷◌, length, Option, None, Some, unwrap_or, slice_get}
 use Rattle.std.specs.Ordering.{nat_cmp}
@@ -31,7 +30,7 @@ pub record TaskMeaning : Type 0 where
   pub goal : set.FinSet nat_cmp
   pub actions : List ActionMeaning
 
--- what stands for an action that isn't listed: it has no cost, so it never applies
+-- in place of an action that isn't listed: it has no cost, so it never applies
 abbrev pub no_action : ActionMeaning
 no_action = record { pre = set.empty; add = set.empty; del = set.empty; cost = None }
 
@@ -80,7 +79,7 @@ cost_of task (action ∷ list) = price task action + cost_of task list
 abbrev pub AllBelow : ℕ → Numbers → Type 0
 AllBelow bound numbers = (k : ℕ) → set.contains numbers k ≡ true → k < bound
 
--- what an action may name in a task with so many atoms
+-- what an action may name in a task with this number of atoms
 pub record IsAction (atoms : ℕ) (action : ActionMeaning) : Type 0 where
   pub pre : AllBelow (atoms + 1) action.pre
   pub add : AllBelow atoms action.add

@@ -1,3 +1,5 @@
+//! A ground action of a task.
+
 use mre_base::List;
 
 /// A ground action: its preconditions, adds and deletes by their numbers, and its cost where it has

@@ -1,3 +1,5 @@
+//! A cut: a weight, and the atoms that its set lacks.
+
 use mre_base::List;
 
 /// A cut of a state of a task with `n` atoms: a weight, and the set of all numbers below `n` but

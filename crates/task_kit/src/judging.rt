@@ -1,3 +1,5 @@
+//! Judging a list of actions on a task.
+
 ghost use Rattle.std.specs.Prelude.{◌≡◌, ◌+◌, ◌^◌, ◌<◌, ◌↔◌, IsTrue, All, length};
 ghost use Rattle.task_kit.specs.Judged.{IsJudged, IsStepFault, says_valid};
 ghost use Rattle.task_kit.specs.Tasks.{IsValid, IsFirstLack};
@@ -6,8 +8,8 @@ use crate::price::price_of;
 use crate::view::TaskView;
 use mre_base::Bits;
 
-/// What judging a list of actions on a task tells. Steps count from 1, and the atom is the least
-/// that is missing there.
+/// The judgement of a list of actions on a task. Steps count from 1, and the atom is the least that
+/// is missing there.
 #[derive(Clone, Copy, Debug, PartialEq, Eq)]
 pub enum Judgement {
     /// The actions apply one after another and lead to the goal, at this cost.

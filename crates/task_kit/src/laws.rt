@@ -1,3 +1,5 @@
+//! Laws of bounds and of cuts.
+
 ghost use Rattle.task_kit.specs.Bounds.{BoundLaw};
 ghost use Rattle.task_kit.specs.Cuts.{CutLaw};
 

@@ -1,3 +1,5 @@
+//! The price of an action: its cost, or 0 where it has no cost.
+
 ghost use Rattle.std.specs.Prelude.{◌≡◌, ◌<◌, ◌^◌, length};
 ghost use Rattle.task_kit.specs.Tasks.{price};
 

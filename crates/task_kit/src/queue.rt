@@ -1,3 +1,5 @@
+//! The open list of a search.
+
 ghost use Rattle.std.specs.Prelude.{ℕ, ◌≡◌, [], IfSome, IfNone, OnOk};
 ghost use Rattle.task_kit.specs.Queues.{Waits, Puts, Takes};
 
@@ -7,7 +9,7 @@ use std::cmp::Reverse;
 use std::collections::BinaryHeap;
 use std::marker::Model;
 
-/// Places that wait to be looked at, each with its cost. The one with the least cost comes next.
+/// The open list: places, each with its cost. The one with the least cost comes next.
 #[derive(Drop)]
 pub struct Queue {
     heap: BinaryHeap<Reverse<(u64, usize)>>,
@@ -23,7 +25,7 @@ impl Model for Queue {
 }
 
 impl Queue {
-    /// The queue in which nothing waits.
+    /// The empty queue.
     pub fn new(alloc: Global) -> Queue
         ensures { result ≡ [] }
     {

@@ -118,7 +118,7 @@ impl Table {
         }
     }
 
-    // Adds a way to the state at a place, which waits from now on.
+    // Adds a way to the state at a place, which is open from now on.
     fn add_way(
         &mut self,
         state: usize,

@@ -1,3 +1,5 @@
+//! A plain search for a cheapest list of actions below a cost.
+
 ghost use Rattle.std.specs.Prelude.{ℕ, ◌≡◌, ◌≢◌, ◌+◌, ◌^◌, ◌<◌, ◌≤◌, Some, length, slice_get};
 ghost use Rattle.std.specs.Prelude.{reverse, IfOk, OnOk};
 ghost use Rattle.task_kit.specs.declared.reached.Way.{Way};

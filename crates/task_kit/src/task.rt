@@ -1,3 +1,5 @@
+//! A task on numbers.
+
 ghost use Rattle.std.specs.Prelude.{◌≡◌, ◌+◌};
 ghost use Rattle.task_kit.specs.Tasks.{IsTask};
 ghost use Rattle.task_kit.specs.Kept.{task_meaning};

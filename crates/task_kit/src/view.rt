@@ -1,3 +1,5 @@
+//! What a search needs to know of a task.
+
 ghost use Rattle.std.specs.Prelude.{◌≡◌, ◌+◌, ◌<◌, length};
 ghost use Rattle.task_kit.specs.Tasks.{TaskMeaning, IsTask, as_bits, action_at, cost_at, applies};
 ghost use Rattle.task_kit.specs.Tasks.{after, adds_outside, IsFirstLack};
@@ -11,8 +13,8 @@ pub trait TaskView {
     /// What the task means.
     ghost seen: { Self → TaskMeaning };
 
-    /// How many atoms there are. Their numbers are those below it; the number itself stands for
-    /// what can never be true.
+    /// How many atoms there are. Their numbers are those below it; the number itself means what can
+    /// never be true.
     fn atoms(&self) -> u32
         ensures atoms { result ≡ (seen self.now).atoms }
         ensures task { IsTask (seen self.now) };

@@ -1,3 +1,5 @@
+//! Tests of bound proofs.
+
 use crate::forming::are_formed;
 use crate::making::{CutRow, StateRow, action, proof_of, task_of};
 use bound_cert::{BoundFault, BoundRule, Scratch, check_bound};

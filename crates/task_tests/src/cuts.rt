@@ -1,3 +1,5 @@
+//! Tests of cuts.
+
 use crate::making::{action, task_of};
 use mre_base::NoMemory;
 use relax_cuts::cuts_for;
@@ -58,7 +60,7 @@ fn each_goal_atom_is_paid_for(rt: HostRuntime) -> Result<(), Fail> {
     assert_cuts(&rt, rt.alloc(), task, &[cut(4, &[1]), cut(3, &[0])])
 }
 
-// Atoms: 0 (the goal), 1 (the start), 2 (never true), 3 (behind the open action).
+// Atoms: 0 (the goal), 1 (the start), 2 (never true), 3 (after the open action).
 #[test]
 fn what_costs_nothing_is_taken(rt: HostRuntime) -> Result<(), Fail> {
     let hop = action(&[3], &[0], &[], Some(3));
@@ -72,7 +74,7 @@ fn what_costs_nothing_is_taken(rt: HostRuntime) -> Result<(), Fail> {
     assert_cuts(&rt, rt.alloc(), task, &[])
 }
 
-// The number 2 stands for what can never be true, and the first action has no cost.
+// The number 2 means what can never be true, and the first action has no cost.
 #[test]
 fn a_dead_end_has_a_cut_that_counts_nothing(rt: HostRuntime) -> Result<(), Fail> {
     let never = action(&[1], &[0], &[], None);

@@ -149,7 +149,7 @@ fn state_of(alloc: Global, atoms: u32, row: &StateRow<'_>) -> Result<BoundState,
     })
 }
 
-/// The proof of the given states, for a task with so many atoms.
+/// The proof of the given states, for a task with the given number of atoms.
 pub fn proof_of(
     alloc: Global,
     atoms: u32,

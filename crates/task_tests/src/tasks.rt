@@ -1,3 +1,5 @@
+//! Tests of judging and searching.
+
 use crate::making::{action, list_below, task_of};
 use mre_base::{Bits, List};
 use std::alloc::Global;
@@ -40,7 +42,7 @@ fn n_task(alloc: Global, first: u32, second: u32) -> Result<Task, Fail> {
     Ok(task_of(alloc, 5, &[0, 3, 4], &[2], &[there, back, on, ride])?)
 }
 
-// A list of actions, and what judging it tells.
+// A list of actions, and its judgement.
 #[derive(Clone, Copy)]
 struct Trial<'a> {
     plan: &'a [u32],
