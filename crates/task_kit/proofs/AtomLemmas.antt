@@ -1,25 +1,16 @@
 -- Lists of atoms as sets of atoms, one atom after another.
 use Rattle.std.proofs.Common.{◌≡◌, ℕ, zero, suc, ◌+◌, ◌≤◌, ◌<◌, Bool, true, false, ◌&&◌, ◌||◌, not, List, [], ◌∷◌, length, get_or, take, Option, Some, None, min, nat_eq, refl, sym, ap, ◌∙◌, arith, subst, ◌⊎◌, inl, inr}
-use Rattle.std.proofs.lemmas.Bool.{or_cases, or_left, or_right, eq-eqb, eqb-true, false≢true, false_from_ne_true, cases_lt}
+use Rattle.std.proofs.lemmas.Bool.{false≢true, false_from_ne_true, cases_lt}
 use Rattle.std.proofs.lemmas.List.{take_more, take_all}
 use Rattle.std.specs.Cmp.{nat_cmp_total}
 use Rattle.std.specs.FinSet as set
 use Rattle.std.specs.FinSet.{same_set, is_subset-contains, contains-is_subset, contains-empty, contains-union, contains-difference, from_list_push, nat_cmp-IsAntisymmetric}
 use Rattle.mre_base.specs.Sets.{BitSet}
-use Rattle.mre_base.proofs.SetsBelow.{contains-insert_nat, contains-remove_nat}
+use Rattle.mre_base.proofs.SetsBelow.{contains-insert_nat, contains-remove_nat, has_inserted, has_before, insert_cases}
 use Rattle.task_kit.specs.Atoms.{lesser_of}
 use Rattle.task_kit.specs.Tasks.{Numbers, set_of, IsLeastMissing, IsFirstLack}
 
--- ---- which atoms are listed
-has_inserted : (s : Numbers) (p : ℕ) → set.contains (set.insert s p) p ≡ true
-has_inserted s p = contains-insert_nat s p p ∙ or_left _ _ (eq-eqb p p refl)
-
-has_before : (s : Numbers) (p k : ℕ) → set.contains s k ≡ true → set.contains (set.insert s p) k ≡ true
-has_before s p k there = contains-insert_nat s p k ∙ or_right _ _ there
-
-insert_cases : (s : Numbers) (p k : ℕ) → set.contains (set.insert s p) k ≡ true → (k ≡ p) ⊎ (set.contains s k ≡ true)
-insert_cases s p k there = elim (or_cases _ _ (sym (contains-insert_nat s p k) ∙ there)) [ inl e ↦ inl (eqb-true k p e) | inr h ↦ inr h ]
-
+-- ---- the atoms of a list
 pub listed_in : (xs : List ℕ) (i : ℕ) → i < length xs → set.contains (set_of xs) (get_or xs i 0) ≡ true
 listed_in [] i lt = absurd (omega arith)
 listed_in (x ∷ xs) zero lt = has_inserted (set_of xs) x
@@ -93,7 +84,7 @@ difference-insert s t x =
     contains-difference nat_cmp_total s _ q ∙ ap (λ b. set.contains s q && not b) (contains-insert_nat t x q) ∙ and_one (set.contains s q) (nat_eq q x) (set.contains t q)
     ∙ sym (contains-remove_nat (set.difference s t) x q ∙ ap (λ b. not (nat_eq q x) && b) (contains-difference nat_cmp_total s t q)))
 
--- ---- the first of them that a state lacks
+-- ---- the first wanted atom that a state lacks
 inserted_cases : (wanted more : Numbers) (x q : ℕ) → more ≡ set.insert wanted x → set.contains more q ≡ true → (q ≡ x) ⊎ (set.contains wanted q ≡ true)
 inserted_cases wanted more x q e there = insert_cases wanted x q (sym (ap (λ u. set.contains u q) e) ∙ there)
 
@@ -103,7 +94,7 @@ inserted_before wanted more x q e there = ap (λ u. set.contains u q) e ∙ has_
 inserted_has : (wanted more : Numbers) (x : ℕ) → more ≡ set.insert wanted x → set.contains more x ≡ true
 inserted_has wanted more x e = ap (λ u. set.contains u x) e ∙ has_inserted wanted x
 
--- with one more atom, which the state has
+-- one more wanted atom, which the state has
 pub lack_same : (wanted more state : Numbers) (x : ℕ) (r : Option ℕ) → more ≡ set.insert wanted x → set.contains state x ≡ true → IsFirstLack wanted state r → IsFirstLack more state r
 lack_same wanted more state x None e there lack =
     contains-is_subset nat_cmp_total more state (λ q in_more.
@@ -147,7 +138,7 @@ least_old wanted more state x atom e le lack =
           ];
     }
 
--- with one more atom, which the state lacks
+-- one more wanted atom, which the state lacks
 pub lack_less : (wanted more state : Numbers) (x : ℕ) (r : Option ℕ) → more ≡ set.insert wanted x → set.contains state x ≡ false → IsFirstLack wanted state r → IsFirstLack more state (Some (lesser_of r x))
 lack_less wanted more state x None e out lack = least_new wanted more state x e out (λ lower lt h. is_subset-contains nat_cmp_total wanted state lack lower h)
 lack_less wanted more state x (Some atom) e out lack =
@@ -162,14 +153,14 @@ lack_less wanted more state x (Some atom) e out lack =
     second : (n m : ℕ) → m ≤ n → m ≡ min n m
     second n m le = omega arith
 
--- nothing is lacked of nothing
+-- of no wanted atoms nothing is lacking
 pub lack_none : (wanted state : Numbers) → wanted ≡ set.empty → IsFirstLack wanted state None
 lack_none wanted state e = contains-is_subset nat_cmp_total wanted state (λ q there. absurd (false≢true (sym (ap (λ u. set.contains u q) e ∙ contains-empty _ q) ∙ there)))
 
--- nothing is lacked where each wanted atom is there
+-- nothing is lacking if the state has each wanted atom
 pub no_lack : (wanted state : Numbers) → ((k : ℕ) → set.contains wanted k ≡ true → set.contains state k ≡ true) → IsFirstLack wanted state None
 no_lack wanted state each = contains-is_subset nat_cmp_total wanted state each
 
--- ---- sets as wide as another
+-- ---- equal bit sets
 pub same_bits : (width width' : ℕ) (members members' : Numbers) → width ≡ width' → members ≡ members' → ◌≡◌ {A = BitSet} (record { width = width; members = members }) (record { width = width'; members = members' })
 same_bits width width' members members' ew em = λ i. record { width = ew i; members = em i }

@@ -1,4 +1,5 @@
--- States with numbers show a bound. One list is followed at a time: from a known state it costs, with the state's number, at least k.
+-- Numbered states show a bound. One list is followed at a time: from a known state, its cost and
+-- the state's number are together at least k.
 use Rattle.std.proofs.Common.{◌≡◌, ℕ, zero, suc, ◌+◌, ◌≤◌, ◌<◌, inl, inr, List, [], ◌∷◌, refl, sym, ◌∙◌, arith}
 use Rattle.std.proofs.lemmas.Bool.{true≢false}
 use Rattle.task_kit.specs.Tasks.{Numbers, TaskMeaning, price, after, IsValidFrom, IsValid, cost_of}
@@ -17,7 +18,7 @@ from_zero : (k cost : ℕ) → k ≤ 0 + cost → k ≤ cost
 from_zero k cost le = omega arith
 
 module _ (task : TaskMeaning) (k : ℕ) (known : Numbers → ℕ → Type 0) (shows : Shows task k known) where
-  -- one list: what holds of expanded states holds of each known one, by going down the numbers
+  -- for one list, what holds of expanded states holds of each known one, by going down the numbers
   known_far : (list : List ℕ)
       → ((state : Numbers) (number : ℕ) → IsExpanded task k known state number → IsValidFrom task state list → k ≤ number + cost_of task list)
       → (fuel : ℕ) (state : Numbers) (number : ℕ) → number < fuel → known state number → IsValidFrom task state list → k ≤ number + cost_of task list
@@ -42,7 +43,7 @@ module _ (task : TaskMeaning) (k : ℕ) (known : Numbers → ℕ → Type 0) (sh
   at_start : (list : List ℕ) → known task.start 0 → IsValid task list → k ≤ cost_of task list
   at_start list is valid = from_zero k (cost_of task list) (known_far list (expanded_far list) 1 task.start 0 (omega arith) is valid)
 
-  -- states with numbers, known in any sense, that have the start and of each state every successor below k
+  -- the law for numbered states that are known in any sense
   pub no_cheaper : HasNoCheaper task k
   no_cheaper list valid = by_bound k refl where
     by_bound : (n : ℕ) → k ≡ n → k ≤ cost_of task list

@@ -64,14 +64,14 @@ open_within task start cuts lawful state (action ∷ list) valid =
 pub cut_law : CutLaw
 cut_law task state cuts lawful list valid = omega (arith, sym (all_open task state cuts lawful.each), open_within task state cuts lawful state list valid)
 
--- a number is in what a cut's list leaves exactly where it is below the bound and isn't listed
+-- the set of a cut has exactly the numbers below the bound that aren't listed
 pub contains-all_but : (bound : ℕ) (lacks : List ℕ) (k : ℕ) → set.contains (all_but bound lacks) k ≡ (nat_lt k bound && not (set.contains (set_of lacks) k))
 contains-all_but bound lacks k = contains-set_below (λ j. not (set.contains (set_of lacks) j)) bound k
 
 both_below : (k bound : ℕ) (listed has : Bool) → (has ≡ true → k < bound) → (k < bound → listed ≡ not has) → (nat_lt k bound && not listed) ≡ has
 both_below k bound listed has below agree = grind (arith, nat_tests)
 
--- a set of numbers below the bound is what a list leaves that has exactly the others
+-- a set of numbers below the bound is the set of a cut if the cut lists exactly the other numbers
 pub all_but-is : (bound : ℕ) (lacks : List ℕ) (among : Numbers) → AllBelow bound among → ((k : ℕ) → k < bound → set.contains (set_of lacks) k ≡ not (set.contains among k)) → all_but bound lacks ≡ among
 all_but-is bound lacks among below others =
     same_members (all_but bound lacks) among (λ k. contains-all_but bound lacks k ∙ both_below k bound (set.contains (set_of lacks) k) (set.contains among k) (below k) (others k))

@@ -8,6 +8,8 @@ use Rattle.std.specs.Cmp.{nat_cmp_total}
 use Rattle.std.specs.FinSet as set
 use Rattle.std.specs.FinSet.{is_subset-contains}
 use Rattle.mre_base.specs.Sets.{BitSet}
+use Rattle.std.proofs.lemmas.Option.{none-some}
+use Rattle.mre_base.proofs.Options.{same_some}
 use Rattle.task_kit.specs.declared.judging.Judgement.{Judgement}
 use Rattle.task_kit.specs.declared.judging.Judgement.TheVariants as judgements
 use Rattle.task_kit.specs.Tasks.{Numbers, TaskMeaning, price, applies, after, as_bits, IsValidFrom, IsValid, cost_of, IsLeastMissing}
@@ -31,21 +33,17 @@ module _ (task : TaskMeaning) where
   valid_from state [] all reached = reached
   valid_from state (first ∷ list) all reached = (all.0, valid_from (after task first state) list all.1 reached)
 
-  -- each step of a valid list applies where the steps before it lead
+  -- each step of a valid list applies in the state to which the steps before it lead
   applies_at : (state : Numbers) (list : List ℕ) (place action : ℕ) → IsValidFrom task state list → slice_get list place ≡ Some action → applies task action (state_after task state (take place list)) ≡ true
-  applies_at state [] place action valid here = absurd (none_some action here) where
-    none_some : (x : ℕ) → ◌≡◌ {A = Option ℕ} None (Some x) → ⊥
-    none_some x e = cc
-  applies_at state (first ∷ list) zero action valid here = subst (λ a. applies task a state ≡ true) (same_some first action here) valid.0 where
-    same_some : (x y : ℕ) → Some x ≡ Some y → x ≡ y
-    same_some x y e = cc
+  applies_at state [] place action valid here = absurd (none-some action here)
+  applies_at state (first ∷ list) zero action valid here = subst (λ a. applies task a state ≡ true) (same_some first action here) valid.0
   applies_at state (first ∷ list) (suc place) action valid here = applies_at (after task first state) list place action valid.1 here
 
   goal_at : (state : Numbers) (list : List ℕ) → IsValidFrom task state list → set.is_subset task.goal (state_after task state list) ≡ true
   goal_at state [] valid = valid
   goal_at state (first ∷ list) valid = goal_at (after task first state) list valid.1
 
-  -- ---- what was judged of the first steps of a list
+  -- ---- the judgement of the first steps of a list
   -- the first steps apply and lead to the state, at this cost
   pub record IsWalked (list : List ℕ) (count : ℕ) (state : BitSet) (cost : ℕ) : Type 0 where
     pub applied : DoApply task task.start (take count list)
@@ -83,7 +81,7 @@ module _ (task : TaskMeaning) where
       costs_more : (a b p x y : ℕ) → b ≡ a + p → a ≡ x → y ≡ x + p → b ≡ y
       costs_more a b p x y eb ea ey = omega arith
 
-  -- ---- the judgement
+  -- ---- the judgement of the whole list
   stops_at : (list : List ℕ) (count : ℕ) (state : BitSet) (cost step : ℕ) (Fault : ℕ → Numbers → Type 0) → count < length list → step ≡ count + 1 → IsWalked list count state cost
       → Fault (get_or list count 0) state.members → StopsAt task list step Fault
   stops_at list count state cost step Fault lt counted walked fault =
@@ -118,7 +116,7 @@ module _ (task : TaskMeaning) where
         walked.costs ∙ ap (cost_of task) whole,
       )
 
-  -- what lacks a wanted atom hasn't them all
+  -- a state that lacks a wanted atom doesn't have them all
   lacks_one : (wanted state : Numbers) (atom : ℕ) → IsLeastMissing wanted state atom → set.is_subset wanted state ≡ true → ⊥
   lacks_one wanted state atom missing sub = false≢true (sym missing.is_missing ∙ is_subset-contains nat_cmp_total wanted state sub atom missing.is_wanted)
 

@@ -1,4 +1,4 @@
--- What the lists of a kept task mean.
+-- The meanings of the lists of a kept task.
 use Rattle.std.proofs.Common.{◌≡◌, ℕ, ◌+◌, ◌^◌, ◌≤◌, ◌<◌, List, length, get_or, refl, inl, inr, Some, unwrap_or, All, sym, ap, ◌∙◌, subst, arith}
 use Rattle.std.specs.Option.{option_map}
 use Rattle.std.proofs.lemmas.Bool.{cases_lt, or_cases, eqb-true, false≢true}
@@ -15,7 +15,7 @@ use Rattle.task_kit.specs.declared.action.TaskAction.{TaskAction}
 use Rattle.task_kit.specs.Tasks.{Numbers, set_of, no_action, action_at, after, as_bits, AllBelow, IsAction, IsTask}
 use Rattle.task_kit.specs.Kept.{action_meaning, task_meaning}
 use Rattle.task_kit.proofs.AtomLemmas.{listed_in, in_list, same_bits}
-use Rattle.task_kit.proofs.PlaceLemmas.{item_there}
+use Rattle.mre_base.proofs.Listed.{item_at}
 
 -- the listed atoms are below a bound
 pub all_below : (bound width : ℕ) (xs ys : List ℕ) → ys ≡ xs → AllBelow bound (set_of xs) → bound ≤ width → All (λ x. x < width) ys
@@ -24,13 +24,13 @@ all_below bound width xs ys e below le =
       least : (x y : ℕ) → x ≡ y → y < bound → x < width
       least x y same lt = omega arith
 
--- the set of listed numbers that are below a bound
+-- the set of listed numbers below a bound
 pub below_listed : (bound : ℕ) (xs : List ℕ) → All (λ x. x < bound) xs → AllBelow bound (set_of xs)
 below_listed bound xs each k there =
     let found = in_list xs k there in
     subst (λ x. x < bound) found.2 (each found.0 0 found.1)
 
--- an action whose lists have the numbers that it may name
+-- an action whose lists are in their ranges
 pub lists_in_range : (atoms : ℕ) (action : TaskAction) → All (λ x. x < atoms + 1) action.pre → All (λ x. x < atoms) action.add → All (λ x. x < atoms + 1) action.del → unwrap_or action.cost 0 < 2 ^ 32 → IsAction atoms (action_meaning action)
 lists_in_range atoms action pre add del cost = record { pre = below_listed _ action.pre pre; add = below_listed _ action.add add; del = below_listed _ action.del del; cost = cost }
 
@@ -65,7 +65,7 @@ module _ (atoms : ℕ) (start goal : BitSet) (actions : List TaskAction) where
       ∙ same_bits _ _ _ _ (ap (λ b. b.width) ew ∙ ap (λ b. b.width) ec ∙ wide)
       (members ∙ listed ∙ sym (ap (λ m. set.union (set.difference state.members m.del) m.add) (action_kept i a e)))
 
-  -- what isn't listed has no number out of its range
+  -- the action at a number that isn't listed has no number out of its range
   unlisted_in_range : IsAction atoms no_action
   unlisted_in_range = record { pre = below_none _ _ refl; add = below_none _ _ refl; del = below_none _ _ refl; cost = omega arith }
 
@@ -86,6 +86,6 @@ module _ (atoms : ℕ) (start goal : BitSet) (actions : List TaskAction) where
 
       in_range : (i : ℕ) → IsAction atoms (action_at (task_meaning atoms start goal actions) i)
       in_range i = elim (cases_lt i (length actions)) [
-        | inl lt ↦ by_place (item_there actions i lt) lt
+        | inl lt ↦ by_place (item_at actions i lt) lt
         | inr past ↦ subst (IsAction atoms) (sym (ap (λ o. unwrap_or o no_action) (slice_get-map action_meaning actions i ∙ ap (option_map action_meaning) (slice_get_past actions i past)))) unlisted_in_range
       ]

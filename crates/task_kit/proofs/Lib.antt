@@ -1,6 +1,7 @@
 pub mod AtomLemmas
 pub mod BoundLemmas
 pub mod CutLemmas
+pub mod CutWeights
 pub mod JudgeLemmas
 pub mod KeptLemmas
 pub mod PlaceLemmas

@@ -1,4 +1,4 @@
--- A state among states, as the program compares them.
+-- A state in a list of states, as the program compares them.
 use Rattle.std.proofs.Common.{◌≡◌, ℕ, Bool, true, false, List, Some, Contains, slice_get, get_or, position, refl, ap, sym, ◌∙◌}
 use Rattle.std.proofs.lemmas.Bool.{false≢true}
 use Rattle.std.specs.List.{list_any}

@@ -1,5 +1,5 @@
--- Why no valid list of a task costs less than a bound: states with numbers, where each state's
--- successors are there too unless they are too dear.
+-- Why no valid list of a task costs less than a bound: numbered states that include the successors
+-- of each state, unless they are too dear.
 use Rattle.std.specs.Prelude.{ℕ, ◌+◌, ◌≡◌, ◌≤◌, ◌<◌, true, false, List, Option, Some, None}
 use Rattle.std.specs.Prelude.{Contains, ◌⊎◌}
 use Rattle.std.specs.Ordering.{nat_cmp}
@@ -11,8 +11,7 @@ use Rattle.task_kit.specs.Tasks.{cost_of}
 abbrev pub HasNoCheaper : TaskMeaning → ℕ → Type 0
 HasNoCheaper task k = (list : List ℕ) → IsValid task list → k ≤ cost_of task list
 
--- each list from the state to the goal costs so much that, with the state's number, it comes to at
--- least k
+-- the cost of each list from the state to the goal, added to the state's number, is at least k
 abbrev pub IsFar : TaskMeaning → ℕ → Numbers → ℕ → Type 0
 IsFar task k state number =
     (list : List ℕ) → IsValidFrom task state list → k ≤ number + cost_of task list
@@ -30,8 +29,8 @@ pub record IsExpanded (task : TaskMeaning) (k : ℕ) (known : Numbers → ℕ �
       (k ≤ number + price task action) ⊎ IsKnownWithin known (after task action
       state) (number + price task action)
 
--- the start is known with 0, and each known state is expanded, or far from the goal, or known with
--- a smaller number
+-- the start is known with 0, and each known state is expanded, far from the goal, or known with a
+-- smaller number
 pub record Shows (task : TaskMeaning) (k : ℕ) (known : Numbers → ℕ → Type 0) : Type 0 where
   pub start : 0 < k → known task.start 0
   pub each : (state : Numbers) (number : ℕ) → known state number →
@@ -48,15 +47,15 @@ abbrev pub IsListed : List NumberedState → Numbers → ℕ → Type 0
 IsListed states state number =
     (s : NumberedState) × Contains states s × (s.state ≡ state) × (s.number ≡ number)
 
--- the law of bounds: listed states that have the start, and of each state every successor below k,
--- show that no valid list costs less than k
+-- the law of bounds: if listed states include the start and, of each of them, every successor below
+-- k, then no valid list costs less than k
 abbrev pub BoundLaw : Type 0
 BoundLaw =
     (task : TaskMeaning) (k : ℕ) (states : List NumberedState) → Shows task k (IsListed states)
     → HasNoCheaper task k
 
--- what a search below k answers: a valid list that costs less than k and no more than any other, or
--- none where no valid list costs less than k
+-- the answer of a search below k: a valid list that costs less than k and no more than any other,
+-- or None if no valid list costs less than k
 abbrev pub IsCheapestBelow : TaskMeaning → ℕ → Option (List ℕ) → Type 0
 IsCheapestBelow task k None = HasNoCheaper task k
 IsCheapestBelow task k (Some list) =

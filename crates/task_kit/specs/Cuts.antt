@@ -1,5 +1,5 @@
--- Cuts of a state: each shows that some action of a certain kind is still to come, and together
--- they bound the cost of every list from the state to the goal.
+-- Cuts of a state: each shows that some action of a certain kind must still come, and together they
+-- bound the cost of every list from the state to the goal.
 use Rattle.std.specs.Prelude.{ℕ, ◌+◌, ◌≡◌, ◌≤◌, Bool, true, false, ◌&&◌, cond, List, [], ◌∷◌, All}
 use Rattle.std.specs.Ordering.{nat_cmp}
 use Rattle.std.specs.FinSet as set

@@ -1,5 +1,5 @@
--- What judging a list of actions on a task answers: that the list is valid and what it costs, or
--- the first place at which it isn't.
+-- The judgement of a list of actions on a task: that the list is valid and its cost, or the first
+-- place where it fails.
 use Rattle.std.specs.Prelude.{ℕ, ◌+◌, ◌≡◌, Bool, true, false, List, [], ◌∷◌, take, Option, Some}
 use Rattle.std.specs.Prelude.{None, slice_get}
 use Rattle.std.specs.FinSet as set
@@ -8,19 +8,19 @@ use Rattle.task_kit.specs.declared.judging.Judgement.TheVariants as judgements
 use Rattle.task_kit.specs.Tasks.{Numbers, IsLeastMissing, TaskMeaning, action_at, cost_at, applies}
 use Rattle.task_kit.specs.Tasks.{after, IsValid, cost_of}
 
--- the state that the actions lead to, one after another
+-- the state to which the actions lead, one after another
 abbrev pub state_after : TaskMeaning → Numbers → List ℕ → Numbers
 state_after task state [] = state
 state_after task state (action ∷ list) = state_after task (after task action state) list
 
--- each action applies in the state that the ones before it lead to
+-- each action applies in the state to which the ones before it lead
 abbrev pub DoApply : TaskMeaning → Numbers → List ℕ → Type 0
 DoApply task state [] = Unit {0}
 DoApply task state (action ∷ list) =
     (applies task action state ≡ true) × DoApply task (after task action state) list
 
--- the steps before this one, counted from 1, apply, and its action has the fault in the state that
--- they lead to
+-- the steps before this one, counted from 1, apply, and its action has the fault in the state to
+-- which they lead
 pub record StopsAt (task : TaskMeaning) (list : List ℕ) (step : ℕ)
     (Fault : ℕ → Numbers → Type 0) : Type 0 where
   pub place : ℕ
@@ -30,7 +30,7 @@ pub record StopsAt (task : TaskMeaning) (list : List ℕ) (step : ℕ)
   pub before : DoApply task task.start (take place list)
   pub fault : Fault action (state_after task task.start (take place list))
 
--- the fault of a step by an action in a state: it lacks a precondition, or has them all and no cost
+-- the fault of a step by an action in a state: it lacks a precondition, or has them all but no cost
 abbrev pub IsFaultOf : TaskMeaning → ℕ → Numbers → ℕ → Judgement → Type 0
 IsFaultOf task action state step (judgements.Valid cost) = ⊥
 IsFaultOf task action state step (judgements.Fails at atom) =
@@ -58,7 +58,7 @@ says_valid (judgements.Fails step atom) = false
 says_valid (judgements.NoCost step) = false
 says_valid (judgements.GoalMissing atom) = false
 
--- why a step, counted from 1, can't be made by an action in a state; none where the action applies
+-- why a step, counted from 1, can't be made by an action in a state, or None if the action applies
 -- there
 abbrev pub IsStepFault : TaskMeaning → ℕ → Numbers → ℕ → Option Judgement → Type 0
 IsStepFault task action state step None = applies task action state ≡ true

@@ -1,71 +1,71 @@
--- What a plain search keeps: the states that it reached, the ways to them, and the open list: the
--- ways that are still to be expanded.
+-- What a plain search keeps: the states that it reached, their nodes, and the open list.
 use Rattle.std.specs.Prelude.{ℕ, ◌≡◌, ◌≤◌, ◌<◌, List, [], ◌∷◌, ◌++◌, length, Some, slice_get, ◌⊎◌}
 use Rattle.mre_base.specs.Sets.{BitSet}
-use Rattle.task_kit.specs.declared.reached.Way.{Way}
+use Rattle.task_kit.specs.declared.reached.SearchNode.{SearchNode}
 use Rattle.task_kit.specs.declared.reached.Table.{Table}
 use Rattle.task_kit.specs.Queues.{Puts}
 
--- the states, the last way to each of them, all ways, and the open ones
+-- the states, the latest node of each of them, all nodes, and the open list
 pub record Reached : Type 0 where
   pub states : List BitSet
   pub last : List ℕ
-  pub ways : List Way
-  pub waiting : List (ℕ × ℕ)
+  pub nodes : List SearchNode
+  pub open_nodes : List (ℕ × ℕ)
 
--- what a table has
+-- the parts of a table
 abbrev pub reached : Table → Reached
 reached table =
     record {
       states = table.states.keys;
       last = table.last.items;
-      ways = table.ways.items;
-      waiting = table.waiting;
+      nodes = table.nodes.items;
+      open_nodes = table.open_nodes;
     }
 
--- each item of the list is at the same place
+-- each item of the old list is at the same place in the new list
 abbrev pub StaysIn : {A : Type 0} → List A → List A → Type 0
 StaysIn {A} old new =
     (place : ℕ) (x : A) → slice_get old place ≡ Some x → slice_get new place ≡ Some x
 
--- each state has a last way, which leads to it, and each way leads to a state
+-- each state has a latest node, which is of that state, and each node is of a state
 pub record IsIndexed (r : Reached) : Type 0 where
   pub sized : length r.last ≡ length r.states
   pub held : (place at : ℕ) → slice_get r.last place ≡ Some at
-      → (way : Way) × (slice_get r.ways at ≡ Some way) × (way.state ≡ place)
-  pub stated : (at : ℕ) (way : Way) → slice_get r.ways at ≡ Some way → way.state < length r.states
+      → (node : SearchNode) × (slice_get r.nodes at ≡ Some node) × (node.state ≡ place)
+  pub stated : (at : ℕ) (node : SearchNode) → slice_get r.nodes at ≡ Some node
+      → node.state < length r.states
 
--- a way to the state is there that costs no more than this
-abbrev pub HasWay : Reached → BitSet → ℕ → Type 0
-HasWay r state cost =
-    (at : ℕ) × (way : Way) × (slice_get r.ways at ≡ Some way)
-    × (slice_get r.states way.state ≡ Some state) × (way.cost ≤ cost)
+-- the state has a node that costs no more than this
+abbrev pub HasNode : Reached → BitSet → ℕ → Type 0
+HasNode r state cost =
+    (at : ℕ) × (node : SearchNode) × (slice_get r.nodes at ≡ Some node)
+    × (slice_get r.states node.state ≡ Some state) × (node.cost ≤ cost)
 
--- a way to the same state is there that costs less
-abbrev pub IsBeaten : Reached → Way → Type 0
-IsBeaten r way =
-    (at : ℕ) × (other : Way) × (slice_get r.ways at ≡ Some other) × (other.state ≡ way.state)
-    × (other.cost < way.cost)
+-- the node's state has a cheaper node
+abbrev pub IsBeaten : Reached → SearchNode → Type 0
+IsBeaten r node =
+    (at : ℕ) × (other : SearchNode) × (slice_get r.nodes at ≡ Some other)
+    × (other.state ≡ node.state) × (other.cost < node.cost)
 
--- nothing was reached yet
+-- nothing has been reached
 abbrev pub nothing : Reached
-nothing = record { states = []; last = []; ways = []; waiting = [] }
+nothing = record { states = []; last = []; nodes = []; open_nodes = [] }
 
--- a way to the state was added, and is open
+-- a node of the state was added, to the open list too
 pub record Adds (old : Reached) (state : BitSet) (cost parent action : ℕ)
     (new : Reached) : Type 0 where
   pub place : ℕ
   pub here : slice_get new.states place ≡ Some state
   pub states : StaysIn old.states new.states
-  pub ways : new.ways ≡ old.ways ++ (record {
+  pub nodes : new.nodes ≡ old.nodes ++ (record {
     state = place;
     cost = cost;
     parent = parent;
     action = action;
   }) ∷ []
-  pub waiting : Puts old.waiting (length old.ways) new.waiting
+  pub open_nodes : Puts old.open_nodes (length old.nodes) new.open_nodes
 
--- a way to the state was added, or one that costs no more was there and nothing has changed
+-- a node of the state was added, or the state has one that costs no more and nothing has changed
 abbrev pub Notes : Reached → BitSet → ℕ → ℕ → ℕ → Reached → Type 0
 Notes old state cost parent action new =
-    Adds old state cost parent action new ⊎ ((new ≡ old) × HasWay old state cost)
+    Adds old state cost parent action new ⊎ ((new ≡ old) × HasNode old state cost)

@@ -1,13 +1,13 @@
--- Tasks on numbers, after STRIPS. Atoms and ground actions are numbers from 0 on, and a state is the
--- set of its true atoms. In a task with n atoms the number n means whatever can never be true: it may
--- be a precondition, and no state has it.
+-- Tasks on numbers, after STRIPS. Atoms and ground actions are numbers from 0 on, and a state is
+-- the set of its true atoms. In a task with n atoms the number n means whatever can never be true:
+-- it may be a precondition, and no state has it.
 use Rattle.std.specs.Prelude.{ℕ, ◌+◌, ◌^◌, ◌≡◌, ◌<◌, Bool, true, false, ◌&&◌, not, is_some, List}
 use Rattle.std.specs.Prelude.{[], ◌∷◌, length, Option, None, Some, unwrap_or, slice_get}
 use Rattle.std.specs.Ordering.{nat_cmp}
 use Rattle.std.specs.FinSet as set
 use Rattle.mre_base.specs.Sets.{BitSet}
 
--- the atoms of a state, or the numbers of another set
+-- the atoms of a state, or another set of numbers
 abbrev pub Numbers : Type 0
 Numbers = set.FinSet nat_cmp
 
@@ -15,22 +15,21 @@ Numbers = set.FinSet nat_cmp
 abbrev pub set_of : List ℕ → Numbers
 set_of numbers = set.from_list numbers
 
--- an action: what it needs, what it makes true and false, and what it costs where it has a cost
+-- an action: its preconditions, what it makes true and false, and its cost if it has one
 pub record ActionMeaning : Type 0 where
   pub pre : set.FinSet nat_cmp
   pub add : set.FinSet nat_cmp
   pub del : set.FinSet nat_cmp
   pub cost : Option ℕ
 
--- a task: how many atoms there are, the first state, the atoms that are wanted in the end, and the
--- actions
+-- a task: the number of atoms, the first state, the goal atoms, and the actions
 pub record TaskMeaning : Type 0 where
   pub atoms : ℕ
   pub start : set.FinSet nat_cmp
   pub goal : set.FinSet nat_cmp
   pub actions : List ActionMeaning
 
--- in place of an action that isn't listed: it has no cost, so it never applies
+-- the action at a number that isn't listed: it has no cost, so it never applies
 abbrev pub no_action : ActionMeaning
 no_action = record { pre = set.empty; add = set.empty; del = set.empty; cost = None }
 
@@ -38,11 +37,11 @@ no_action = record { pre = set.empty; add = set.empty; del = set.empty; cost = N
 abbrev pub action_at : TaskMeaning → ℕ → ActionMeaning
 action_at task action = unwrap_or (slice_get task.actions action) no_action
 
--- the cost of an action, where it has one
+-- the cost of an action, if it has one
 abbrev pub cost_at : TaskMeaning → ℕ → Option ℕ
 cost_at task action = (action_at task action).cost
 
--- the cost of an action, or 0 where it has none
+-- the cost of an action, or 0 if it has none
 abbrev pub price : TaskMeaning → ℕ → ℕ
 price task action = unwrap_or (cost_at task action) 0
 
@@ -51,7 +50,7 @@ abbrev pub applies : TaskMeaning → ℕ → Numbers → Bool
 applies task action state =
     is_some (cost_at task action) && set.is_subset (action_at task action).pre state
 
--- the successor: the state without the deletes, and then with the adds
+-- the successor: the deletes are taken out of the state, and then the adds are put in
 unfoldable pub after : TaskMeaning → ℕ → Numbers → Numbers
 after task action state =
     set.union (set.difference state (action_at task action).del) (action_at task action).add
@@ -86,8 +85,7 @@ pub record IsAction (atoms : ℕ) (action : ActionMeaning) : Type 0 where
   pub del : AllBelow (atoms + 1) action.del
   pub cost : unwrap_or action.cost 0 < 2 ^ 32
 
--- the facts of each task: its numbers are in their ranges, and there is room for one number more
--- than it has atoms
+-- each number of a task is in its range, and one number more than its atoms fits in 32 bits
 pub record IsTask (task : TaskMeaning) : Type 0 where
   pub few_atoms : task.atoms + 1 < 2 ^ 32
   pub few_actions : length task.actions < 2 ^ 32
@@ -95,8 +93,7 @@ pub record IsTask (task : TaskMeaning) : Type 0 where
   pub goal : AllBelow (task.atoms + 1) task.goal
   pub each : (action : ℕ) → IsAction task.atoms (action_at task action)
 
--- a set of numbers, as wide as each bit set of the task: there is a place for the number that is
--- never true
+-- a set of numbers as wide as each bit set of the task, with room for the number that is never true
 abbrev pub as_bits : TaskMeaning → Numbers → BitSet
 as_bits task numbers = record { width = task.atoms + 1; members = numbers }
 
@@ -107,7 +104,7 @@ pub record IsLeastMissing (wanted state : Numbers) (atom : ℕ) : Type 0 where
   pub is_least : (lower : ℕ) → lower < atom → set.contains wanted lower ≡ true
       → set.contains state lower ≡ true
 
--- the least of the wanted atoms that the state lacks, or none where it has them all
+-- the least wanted atom that the state lacks, or None if it has them all
 abbrev pub IsFirstLack : Numbers → Numbers → Option ℕ → Type 0
 IsFirstLack wanted state None = set.is_subset wanted state ≡ true
 IsFirstLack wanted state (Some atom) = IsLeastMissing wanted state atom

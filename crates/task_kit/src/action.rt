@@ -2,8 +2,7 @@
 
 use mre_base::List;
 
-/// A ground action: its preconditions, adds and deletes by their numbers, and its cost where it has
-/// one.
+/// A ground action: the numbers of its preconditions, adds and deletes, and its cost if it has one.
 #[derive(Debug)]
 pub struct TaskAction {
     pub pre: List<u32>,

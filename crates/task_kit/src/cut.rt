@@ -1,10 +1,9 @@
-//! A cut: a weight, and the atoms that its set lacks.
+//! Cuts of a state.
 
 use mre_base::List;
 
-/// A cut of a state of a task with `n` atoms: a weight, and the set of all numbers below `n` but
-/// the listed ones, which every list from
-/// the state to the goal has to leave.
+/// A cut of a state of a task with `n` atoms: a weight, and a set that every list from the state to
+/// the goal has to leave. The set has all numbers below `n` but the listed ones.
 #[derive(Debug, Drop)]
 pub struct Cut {
     pub weight: u64,

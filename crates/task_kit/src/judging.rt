@@ -35,7 +35,7 @@ fn first_lack(wanted: &Bits, state: &Bits) -> Option<u32>
     None
 }
 
-// Why a step can't be made in a state.
+// Why a step can't be made in a state, if it can't.
 fn fault_at<T: TaskView>(task: &T, action: u32, state: &Bits, step: u32) -> Option<Judgement>
     requires listed { action < length (T.seen task.now).actions }
     requires width { state.now.width ≡ (T.seen task.now).atoms + 1 }
@@ -51,8 +51,7 @@ fn fault_at<T: TaskView>(task: &T, action: u32, state: &Bits, step: u32) -> Opti
 }
 
 /// Judges a list of actions: whether they apply one after another from the start and lead to the
-/// goal. The two sets are for the states
-/// on the way.
+/// goal. The two sets are room for the states in between.
 pub fn judge<T: TaskView>(task: &T, plan: &[u32], one: &mut Bits, two: &mut Bits) -> Judgement
     requires listed { All (λ action. action < length (T.seen task.now).actions) plan.now }
     requires few { length plan.now < 2 ^ 32 }

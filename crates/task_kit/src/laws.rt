@@ -1,11 +1,10 @@
-//! Laws of bounds and of cuts.
+//! The laws of bounds and of cuts, as functions whose contracts state them.
 
 ghost use Rattle.task_kit.specs.Bounds.{BoundLaw};
 ghost use Rattle.task_kit.specs.Cuts.{CutLaw};
 
-/// States with numbers that have the start and, of each state, every successor below a bound, show
-/// that no valid list costs less than
-/// the bound.
+/// If numbered states include the start and, of each of them, every successor below a bound, then
+/// no valid list costs less than the bound.
 pub fn law_bounds()
     ensures { BoundLaw }
 {}

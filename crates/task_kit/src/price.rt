@@ -1,11 +1,10 @@
-//! The price of an action: its cost, or 0 where it has no cost.
+//! Prices of actions.
 
 ghost use Rattle.std.specs.Prelude.{◌≡◌, ◌<◌, ◌^◌, length};
 ghost use Rattle.task_kit.specs.Tasks.{price};
 
 use crate::view::TaskView;
 
-/// The cost of an action, or 0 where it has none.
 pub fn price_of<T: TaskView>(task: &T, action: u32) -> u64
     requires { action < length (T.seen task.now).actions }
     ensures price { result ≡ price (T.seen task.now) action }

@@ -1,7 +1,7 @@
 //! The open list of a search.
 
 ghost use Rattle.std.specs.Prelude.{ℕ, ◌≡◌, [], IfSome, IfNone, OnOk};
-ghost use Rattle.task_kit.specs.Queues.{Waits, Puts, Takes};
+ghost use Rattle.task_kit.specs.Queues.{IsOpen, Puts, Takes};
 
 use mre_base::NoMemory;
 use std::alloc::Global;
@@ -9,7 +9,7 @@ use std::cmp::Reverse;
 use std::collections::BinaryHeap;
 use std::marker::Model;
 
-/// The open list: places, each with its cost. The one with the least cost comes next.
+/// The open list: places of nodes, each with its cost. The one with the least cost comes next.
 #[derive(Drop)]
 pub struct Queue {
     heap: BinaryHeap<Reverse<(u64, usize)>>,
@@ -25,7 +25,7 @@ impl Model for Queue {
 }
 
 impl Queue {
-    /// The empty queue.
+    /// The empty open list.
     pub fn new(alloc: Global) -> Queue
         ensures { result ≡ [] }
     {
@@ -41,10 +41,10 @@ impl Queue {
         Ok(())
     }
 
-    /// Takes out the place with the least cost.
+    /// Takes the place with the least cost.
     pub fn next(&mut self) -> Option<usize>
         ensures some { IfSome result (λ place. Takes self.old place self.new) }
-        ensures none { IfNone result ((p : ℕ) → ¬ Waits self.old p) }
+        ensures none { IfNone result ((p : ℕ) → ¬ IsOpen self.old p) }
     {
         let Reverse((_, place)) = self.heap.pop()?;
         Some(place)

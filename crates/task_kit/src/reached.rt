@@ -1,8 +1,8 @@
-//! The states that a search has reached.
+//! The nodes of a search: the states that it has reached, and how.
 ghost use Rattle.std.specs.Prelude.{ℕ, ◌≡◌, ◌<◌, ◌++◌, ◌∷◌, [], Some, length, slice_get, Contains};
 ghost use Rattle.std.specs.Prelude.{IsTrue, IfSome, IfNone, IfOk, OnOk};
-ghost use Rattle.task_kit.specs.declared.reached.Way.{Way};
-ghost use Rattle.task_kit.specs.Queues.{Waits, Puts, Takes};
+ghost use Rattle.task_kit.specs.declared.reached.SearchNode.{SearchNode};
+ghost use Rattle.task_kit.specs.Queues.{IsOpen, Puts, Takes};
 ghost use Rattle.task_kit.specs.Reached.{reached, nothing, IsIndexed, IsBeaten, Adds, Notes};
 
 use crate::queue::Queue;
@@ -10,25 +10,25 @@ use indexmap::IndexSet;
 use mre_base::{Bits, NoMemory};
 use std::alloc::Global;
 
-/// One way from the start to a state: the place of the state, what the way costs, and the place of
-/// the way without its last step, with
-/// the action of that step. The first way has no step.
+/// A path from the start to a state, as its last node: the place of the state, the cost of the
+/// path, and the place of the node before it with the action that leads from there. The first node
+/// has no step.
 #[derive(Clone, Copy)]
-pub struct Way {
+pub struct SearchNode {
     pub state: usize,
     pub cost: u64,
     pub parent: usize,
     pub action: u32,
 }
 
-/// The states in the order in which they were reached, with the last way to each, which is the
+/// The states in the order in which they were reached, with the latest node of each, which is its
 /// cheapest so far.
 pub struct Table {
     alloc: Global,
     states: IndexSet<Bits>,
     last: Vec<usize>,
-    ways: Vec<Way>,
-    waiting: Queue,
+    nodes: Vec<SearchNode>,
+    open_nodes: Queue,
 }
 
 impl Drop for Table {
@@ -37,8 +37,8 @@ impl Drop for Table {
             alloc: _,
             states: _,
             last: _,
-            ways: _,
-            waiting: _,
+            nodes: _,
+            open_nodes: _,
         } = self;
     }
 }
@@ -58,19 +58,19 @@ fn insert(states: &mut IndexSet<Bits>, state: Bits) -> Result<(), NoMemory>
     Ok(())
 }
 
-// What the last way to the state at a place costs.
-fn last_cost(last: &Vec<usize>, ways: &Vec<Way>, place: usize) -> u64
+// The cost of the latest node of the state at a place.
+fn last_cost(last: &Vec<usize>, nodes: &Vec<SearchNode>, place: usize) -> u64
     requires place { place < length last.now.items }
     requires held { (at : ℕ) → slice_get last.now.items place ≡ Some at
-        → at < length ways.now.items }
-    ensures { (at : ℕ) (way : Way) → slice_get last.now.items place ≡ Some at →
-        slice_get ways.now.items at ≡ Some way → result ≡ way.cost }
+        → at < length nodes.now.items }
+    ensures { (at : ℕ) (node : SearchNode) → slice_get last.now.items place ≡ Some at →
+        slice_get nodes.now.items at ≡ Some node → result ≡ node.cost }
 {
-    ways[last[place]].cost
+    nodes[last[place]].cost
 }
 
 impl Table {
-    /// The table that has reached the start, by the way without steps.
+    /// The table whose only node is the start.
     pub fn from_start(alloc: Global, start: &Bits) -> Result<Table, NoMemory>
         ensures indexed { IfOk result (λ table. IsIndexed (reached table)) }
         ensures adds { IfOk result (λ table. Adds nothing start.now 0 0 0 (reached table)) }
@@ -79,14 +79,14 @@ impl Table {
             alloc,
             states: IndexSet::new(alloc),
             last: Vec::new(alloc),
-            ways: Vec::new(alloc),
-            waiting: Queue::new(alloc),
+            nodes: Vec::new(alloc),
+            open_nodes: Queue::new(alloc),
         };
         table.note(start, 0, 0, 0)?;
         Ok(table)
     }
 
-    /// Keeps a way to a state, unless one that costs no more is there.
+    /// Adds a node for a state, unless the state has a node that costs no more.
     pub fn note(
         &mut self,
         state: &Bits,
@@ -101,63 +101,64 @@ impl Table {
     {
         match place_of(&self.states, state) {
             Some(place) => {
-                if last_cost(&self.last, &self.ways, place) <= cost {
+                if last_cost(&self.last, &self.nodes, place) <= cost {
                     return Ok(());
                 }
-                self.last[place] = self.ways.len();
-                self.add_way(place, cost, parent, action)?;
+                self.last[place] = self.nodes.len();
+                self.add_node(place, cost, parent, action)?;
                 Ok(())
             }
             None => {
                 let place = self.states.len();
                 insert(&mut self.states, state.copy(self.alloc)?)?;
-                self.last.push(self.ways.len())?;
-                self.add_way(place, cost, parent, action)?;
+                self.last.push(self.nodes.len())?;
+                self.add_node(place, cost, parent, action)?;
                 Ok(())
             }
         }
     }
 
-    // Adds a way to the state at a place, which is open from now on.
-    fn add_way(
+    // Adds a node for the state at a place to the nodes and to the open list.
+    fn add_node(
         &mut self,
         state: usize,
         cost: u64,
         parent: usize,
         action: u32,
     ) -> Result<(), NoMemory>
-        ensures ways { OnOk result (self.new.ways.items ≡ self.old.ways.items
+        ensures nodes { OnOk result (self.new.nodes.items ≡ self.old.nodes.items
             ++ (record { state = state; cost = cost; parent = parent; action = action }) ∷ []) }
-        ensures waiting { OnOk result
-            (Puts self.old.waiting (length self.old.ways.items) self.new.waiting) }
+        ensures open_nodes { OnOk result
+            (Puts self.old.open_nodes (length self.old.nodes.items) self.new.open_nodes) }
         ensures states { self.new.states.keys ≡ self.old.states.keys }
         ensures last { self.new.last.items ≡ self.old.last.items }
     {
-        let at = self.ways.len();
-        self.ways.push(Way {
+        let at = self.nodes.len();
+        self.nodes.push(SearchNode {
             state,
             cost,
             parent,
             action,
         })?;
-        self.waiting.put(cost, at)?;
+        self.open_nodes.put(cost, at)?;
         Ok(())
     }
 
-    /// Takes out the waiting way that costs least.
+    /// Takes the open node with the least cost.
     pub fn next(&mut self) -> Option<usize>
-        ensures some { IfSome result (λ at. Takes self.old.waiting at self.new.waiting) }
-        ensures none { IfNone result ((at : ℕ) → ¬ Waits self.old.waiting at) }
-        ensures rest { reached self.new ≡ record (reached self.old) { waiting = self.new.waiting } }
+        ensures some { IfSome result (λ at. Takes self.old.open_nodes at self.new.open_nodes) }
+        ensures none { IfNone result ((at : ℕ) → ¬ IsOpen self.old.open_nodes at) }
+        ensures rest { reached self.new
+            ≡ record (reached self.old) { open_nodes = self.new.open_nodes } }
     {
-        self.waiting.next()
+        self.open_nodes.next()
     }
 
-    pub fn way(&self, at: usize) -> Way
-        requires { at < length self.now.ways.items }
-        ensures { slice_get self.now.ways.items at ≡ Some result }
+    pub fn node(&self, at: usize) -> SearchNode
+        requires { at < length self.now.nodes.items }
+        ensures { slice_get self.now.nodes.items at ≡ Some result }
     {
-        self.ways[at]
+        self.nodes[at]
     }
 
     pub fn state(&self, place: usize) -> &Bits
@@ -167,12 +168,12 @@ impl Table {
         &self.states.as_slice()[place]
     }
 
-    /// Whether a cheaper way to the same state is there.
-    pub fn is_beaten(&self, way: Way) -> bool
+    /// Whether the node's state has a cheaper node.
+    pub fn is_beaten(&self, node: SearchNode) -> bool
         requires indexed { IsIndexed (reached self.now) }
-        requires stated { way.state < length self.now.states.keys }
-        ensures { IsTrue result → IsBeaten (reached self.now) way }
+        requires stated { node.state < length self.now.states.keys }
+        ensures { IsTrue result → IsBeaten (reached self.now) node }
     {
-        last_cost(&self.last, &self.ways, way.state) < way.cost
+        last_cost(&self.last, &self.nodes, node.state) < node.cost
     }
 }

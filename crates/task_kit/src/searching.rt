@@ -2,19 +2,19 @@
 
 ghost use Rattle.std.specs.Prelude.{ℕ, ◌≡◌, ◌≢◌, ◌+◌, ◌^◌, ◌<◌, ◌≤◌, Some, length, slice_get};
 ghost use Rattle.std.specs.Prelude.{reverse, IfOk, OnOk};
-ghost use Rattle.task_kit.specs.declared.reached.Way.{Way};
+ghost use Rattle.task_kit.specs.declared.reached.SearchNode.{SearchNode};
 ghost use Rattle.task_kit.specs.Bounds.{IsCheapestBelow};
 ghost use Rattle.task_kit.specs.Reached.{reached};
 ghost use Rattle.task_kit.specs.Searching.{IsTrail, Grows, IsReached, AreSettled, AreSettledBut};
-ghost use Rattle.task_kit.specs.Searching.{IsFound, IsWayBack};
+ghost use Rattle.task_kit.specs.Searching.{IsFound, IsPathBack};
 
 use crate::price::price_of;
-use crate::reached::{Table, Way};
+use crate::reached::{SearchNode, Table};
 use crate::view::TaskView;
 use mre_base::{Bits, List, NoMemory};
 use std::alloc::Global;
 
-// The state that is looked at, and one of its successors.
+// The state of the node that is expanded, and one of its successors.
 struct Scratch {
     from: Bits,
     into: Bits,
@@ -26,15 +26,15 @@ impl Drop for Scratch {
     }
 }
 
-// What a search looks at: a way at its place, and the bound below which lists count.
+// A node that is expanded: its place, the node, and the bound below which lists count.
 #[derive(Clone, Copy)]
-struct Look {
+struct Expansion {
     at: usize,
-    way: Way,
+    node: SearchNode,
     bound: u64,
 }
 
-// The bound below which lists still count, and the way to the goal that set it.
+// The bound below which lists still count, and the place of the goal node that set it.
 #[derive(Drop)]
 struct Found {
     bound: u64,
@@ -42,72 +42,72 @@ struct Found {
 }
 
 // Notes the successor by one action.
-fn reach<T: TaskView>(
+fn note_successor<T: TaskView>(
     task: &T,
     table: &mut Table,
     scratch: &mut Scratch,
-    look: &Look,
+    expansion: &Expansion,
     action: u32,
 ) -> Result<(), NoMemory>
     requires listed { action < length (T.seen task.now).actions }
     requires trail { IsTrail (T.seen task.now) (reached table.old) }
-    requires way { slice_get (reached table.old).ways look.now.at ≡ Some look.now.way }
-    requires from { slice_get (reached table.old).states look.now.way.state
+    requires node { slice_get (reached table.old).nodes expansion.now.at ≡ Some expansion.now.node }
+    requires from { slice_get (reached table.old).states expansion.now.node.state
         ≡ Some scratch.old.from }
     requires from_width { scratch.old.from.width ≡ (T.seen task.now).atoms + 1 }
     requires into_width { scratch.old.into.width ≡ (T.seen task.now).atoms + 1 }
-    requires cheap { look.now.way.cost < look.now.bound }
-    requires low { look.now.bound < 2 ^ 46 }
+    requires cheap { expansion.now.node.cost < expansion.now.bound }
+    requires low { expansion.now.bound < 2 ^ 46 }
     ensures trail { OnOk result (IsTrail (T.seen task.now) (reached table.new)) }
     ensures grows { OnOk result (Grows (reached table.old) (reached table.new)) }
-    ensures reached { OnOk result (IsReached (T.seen task.now) look.now.bound (reached table.new)
-        scratch.old.from.members look.now.way.cost action) }
+    ensures reached { OnOk result (IsReached (T.seen task.now) expansion.now.bound
+        (reached table.new) scratch.old.from.members expansion.now.node.cost action) }
     ensures from { scratch.new.from ≡ scratch.old.from }
     ensures into { scratch.new.into.width ≡ scratch.old.into.width }
 {
     if !task.applies(action, &scratch.from) {
         return Ok(());
     }
-    let cost = look.way.cost + price_of(task, action);
-    if look.bound <= cost {
+    let cost = expansion.node.cost + price_of(task, action);
+    if expansion.bound <= cost {
         return Ok(());
     }
     task.next_into(action, &scratch.from, &mut scratch.into);
-    table.note(&scratch.into, cost, look.at, action)?;
+    table.note(&scratch.into, cost, expansion.at, action)?;
     Ok(())
 }
 
-// Notes each successor.
-fn expand<T: TaskView>(
+// Notes all successors.
+fn note_successors<T: TaskView>(
     task: &T,
     table: &mut Table,
     scratch: &mut Scratch,
-    look: &Look,
+    expansion: &Expansion,
 ) -> Result<(), NoMemory>
     requires trail { IsTrail (T.seen task.now) (reached table.old) }
-    requires way { slice_get (reached table.old).ways look.now.at ≡ Some look.now.way }
-    requires from { slice_get (reached table.old).states look.now.way.state
+    requires node { slice_get (reached table.old).nodes expansion.now.at ≡ Some expansion.now.node }
+    requires from { slice_get (reached table.old).states expansion.now.node.state
         ≡ Some scratch.old.from }
     requires from_width { scratch.old.from.width ≡ (T.seen task.now).atoms + 1 }
     requires into_width { scratch.old.into.width ≡ (T.seen task.now).atoms + 1 }
-    requires cheap { look.now.way.cost < look.now.bound }
-    requires low { look.now.bound < 2 ^ 46 }
+    requires cheap { expansion.now.node.cost < expansion.now.bound }
+    requires low { expansion.now.bound < 2 ^ 46 }
     ensures trail { OnOk result (IsTrail (T.seen task.now) (reached table.new)) }
     ensures grows { OnOk result (Grows (reached table.old) (reached table.new)) }
-    ensures reached { OnOk result ((action : ℕ) → IsReached (T.seen task.now) look.now.bound
-        (reached table.new) scratch.old.from.members look.now.way.cost action) }
+    ensures reached { OnOk result ((action : ℕ) → IsReached (T.seen task.now) expansion.now.bound
+        (reached table.new) scratch.old.from.members expansion.now.node.cost action) }
     ensures from { scratch.new.from ≡ scratch.old.from }
     ensures into { scratch.new.into.width ≡ scratch.old.into.width }
 {
     for action in 0..task.actions() {
-        reach(task, table, scratch, look, action)?;
+        note_successor(task, table, scratch, expansion, action)?;
     }
     Ok(())
 }
 
-// Looks at a way that waited no more: sets a lower bound where it leads to the goal, and else notes
-// the successors of its state.
-fn look_at<T: TaskView>(
+// Expands a node taken from the open list: lowers the bound if the node reaches the goal, and notes
+// the successors of its state otherwise.
+fn expand<T: TaskView>(
     task: &T,
     table: &mut Table,
     scratch: &mut Scratch,
@@ -116,7 +116,7 @@ fn look_at<T: TaskView>(
 ) -> Result<(), NoMemory>
     requires trail { IsTrail (T.seen task.now) (reached table.old) }
     requires settled { AreSettledBut (T.seen task.now) found.old.bound (reached table.old) at }
-    requires at { at < length (reached table.old).ways }
+    requires at { at < length (reached table.old).nodes }
     requires from_width { scratch.old.from.width ≡ (T.seen task.now).atoms + 1 }
     requires into_width { scratch.old.into.width ≡ (T.seen task.now).atoms + 1 }
     requires low { found.old.bound < 2 ^ 46 }
@@ -124,59 +124,60 @@ fn look_at<T: TaskView>(
     ensures settled { OnOk result (AreSettled (T.seen task.now) found.new.bound
         (reached table.new)) }
     ensures grows { OnOk result (Grows (reached table.old) (reached table.new)) }
-    ensures found { (first : ℕ) →
-        IsFound (T.seen task.now) (reached table.old) first found.old.bound found.old.foil →
-        OnOk result (IsFound (T.seen task.now) (reached table.new) first found.new.bound found.new.foil) }
+    ensures found { (first : ℕ)
+        → IsFound (T.seen task.now) (reached table.old) first found.old.bound found.old.foil
+        → OnOk result (IsFound (T.seen task.now) (reached table.new) first
+        found.new.bound found.new.foil) }
     ensures bound { found.new.bound ≤ found.old.bound }
     ensures from_width { scratch.new.from.width ≡ scratch.old.from.width }
     ensures into_width { scratch.new.into.width ≡ scratch.old.into.width }
 {
-    let way = table.way(at);
-    if found.bound <= way.cost {
+    let node = table.node(at);
+    if found.bound <= node.cost {
         return Ok(());
     }
-    if table.is_beaten(way) {
+    if table.is_beaten(node) {
         return Ok(());
     }
-    scratch.from.copy_from(table.state(way.state));
+    scratch.from.copy_from(table.state(node.state));
     if task.goal().is_subset(&scratch.from) {
-        found.bound = way.cost;
+        found.bound = node.cost;
         found.foil = Some(at);
         return Ok(());
     }
-    let look = Look {
+    let expansion = Expansion {
         at,
-        way,
+        node,
         bound: found.bound,
     };
-    expand(task, table, scratch, &look)?;
+    note_successors(task, table, scratch, &expansion)?;
     Ok(())
 }
 
-// The actions of a way, the last one first.
-fn way_back(alloc: Global, table: &Table, place: usize) -> Result<Vec<u32>, NoMemory>
-    requires place { place < length (reached table.now).ways }
-    requires earlier { (at : ℕ) (way : Way) → slice_get (reached table.now).ways at ≡ Some way →
-        at ≢ 0 → way.parent < at }
-    ensures { IfOk result (λ back. IsWayBack (reached table.now).ways place back.items) }
+// The actions on the path to a node, the last one first.
+fn path_back(alloc: Global, table: &Table, place: usize) -> Result<Vec<u32>, NoMemory>
+    requires place { place < length (reached table.now).nodes }
+    requires earlier { (at : ℕ) (node : SearchNode)
+        → slice_get (reached table.now).nodes at ≡ Some node → at ≢ 0 → node.parent < at }
+    ensures { IfOk result (λ back. IsPathBack (reached table.now).nodes place back.items) }
 {
     let mut back = Vec::new(alloc);
     let mut at = place;
     while at != 0 {
-        let way = table.way(at);
-        back.push(way.action)?;
-        at = way.parent;
+        let node = table.node(at);
+        back.push(node.action)?;
+        at = node.parent;
     }
     Ok(back)
 }
 
-fn turn_round(list: &mut Vec<u32>)
+fn reverse_in_place(list: &mut Vec<u32>)
     ensures { list.new.items ≡ reverse list.old.items }
 {
     list.as_mut_slice().reverse();
 }
 
-// The same list as a list of this project's.
+// A copy as a `List`.
 fn listed(alloc: Global, from: &Vec<u32>) -> Result<List<u32>, NoMemory>
     ensures { IfOk result (λ list. list ≡ from.now.items) }
 {
@@ -187,9 +188,9 @@ fn listed(alloc: Global, from: &Vec<u32>) -> Result<List<u32>, NoMemory>
     Ok(list)
 }
 
-/// The cheapest valid list, where one costs less than `k`, and none where no valid list of any
-/// length does.
-/// States are looked at in the order of their costs, each with its cheapest way.
+/// The cheapest valid list, if some valid list costs less than `k`, and `None` if no valid list of
+/// any length does. Nodes are expanded in the order of their costs, and of each state only the
+/// cheapest.
 pub fn cheapest_below<T: TaskView>(
     alloc: Global,
     task: &T,
@@ -208,13 +209,13 @@ pub fn cheapest_below<T: TaskView>(
         foil: None,
     };
     while let Some(at) = table.next() {
-        look_at(task, &mut table, &mut scratch, &mut found, at)?;
+        expand(task, &mut table, &mut scratch, &mut found, at)?;
     }
     match found.foil {
         None => Ok(None),
         Some(place) => {
-            let mut back = way_back(alloc, &table, place)?;
-            turn_round(&mut back);
+            let mut back = path_back(alloc, &table, place)?;
+            reverse_in_place(&mut back);
             Ok(Some(listed(alloc, &back)?))
         }
     }

@@ -1,4 +1,4 @@
-//! A task on numbers.
+//! A task that keeps its actions as lists.
 
 ghost use Rattle.std.specs.Prelude.{◌≡◌, ◌+◌};
 ghost use Rattle.task_kit.specs.Tasks.{IsTask};
@@ -10,8 +10,8 @@ use crate::view::TaskView;
 use mre_base::{Bits, List};
 
 /// A task on numbers that keeps its actions as lists. The start and the adds are below `atoms`; the
-/// goal, the preconditions and the
-/// deletes are at most `atoms`, and so is each set one number wider.
+/// goal, the preconditions and the deletes are at most `atoms`. Each set is one number wider than
+/// `atoms`.
 #[derive(Debug)]
 pub struct Task {
     pub atoms: u32,

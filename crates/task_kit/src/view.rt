@@ -1,4 +1,4 @@
-//! What a search needs to know of a task.
+//! What search and judging need to know of a task, however it is kept.
 
 ghost use Rattle.std.specs.Prelude.{◌≡◌, ◌+◌, ◌<◌, length};
 ghost use Rattle.task_kit.specs.Tasks.{TaskMeaning, IsTask, as_bits, action_at, cost_at, applies};
@@ -6,15 +6,14 @@ ghost use Rattle.task_kit.specs.Tasks.{after, adds_outside, IsFirstLack};
 
 use mre_base::Bits;
 
-/// A task on numbers, however it is kept. Its actions have the numbers from 0 on, and each set of
-/// atoms has a place more than there are
-/// atoms. No call takes memory.
+/// A task on numbers, however it is kept. Its actions are numbered from 0 on, and each set of atoms
+/// has room for one number more than there are atoms. No call takes memory.
 pub trait TaskView {
-    /// What the task means.
+    /// The meaning of the task.
     ghost seen: { Self → TaskMeaning };
 
-    /// How many atoms there are. Their numbers are those below it; the number itself means what can
-    /// never be true.
+    /// The number of atoms. The atoms are the numbers below it; the number itself means whatever
+    /// can never be true.
     fn atoms(&self) -> u32
         ensures atoms { result ≡ (seen self.now).atoms }
         ensures task { IsTask (seen self.now) };
@@ -23,15 +22,15 @@ pub trait TaskView {
     fn start(&self) -> &Bits
         ensures { result.now ≡ as_bits (seen self.now) (seen self.now).start };
 
-    /// The atoms that are wanted in the end.
+    /// The goal atoms.
     fn goal(&self) -> &Bits
         ensures { result.now ≡ as_bits (seen self.now) (seen self.now).goal };
 
-    /// How many actions there are.
+    /// The number of actions.
     fn actions(&self) -> u32
         ensures { result ≡ length (seen self.now).actions };
 
-    /// The cost of an action, where it has one.
+    /// The cost of an action, if it has one.
     fn cost(&self, action: u32) -> Option<u32>
         requires { action < length (seen self.now).actions }
         ensures { result ≡ cost_at (seen self.now) action };
@@ -48,8 +47,8 @@ pub trait TaskView {
         requires width { state.now.width ≡ (seen self.now).atoms + 1 }
         ensures { IsFirstLack (action_at (seen self.now) action).pre state.now.members result };
 
-    /// Writes the successor of a state by an action: the state without the deletes, and then with
-    /// the adds.
+    /// Writes the successor of a state by an action: the deletes are taken out, and then the adds
+    /// are put in.
     fn next_into(&self, action: u32, state: &Bits, into: &mut Bits)
         requires listed { action < length (seen self.now).actions }
         requires width { state.now.width ≡ (seen self.now).atoms + 1 }

@@ -17,28 +17,28 @@ loop-at-init g c =
       into = ap (λ b. b.width) (c.in_ok-copy-2.ensures.ok ∙ c.start-3.ensures);
     }
 
-pub look_at-requires-clause-trail : goal.look_at-requires-clause-trail
-look_at-requires-clause-trail g c =
+pub expand-requires-clause-trail : goal.expand-requires-clause-trail
+expand-requires-clause-trail g c =
     (taken (g.T.TaskView.seen c.args.task.now) (reached c.loop-at.table) (reached c.next.new.self) c.in-Some.at c.loop-at.found.bound c.in-Some.ensures.some c.in-Some.ensures.rest c.loop-at.invariant.trail c.loop-at.invariant.settled).0
 
-pub look_at-requires-clause-settled : goal.look_at-requires-clause-settled
-look_at-requires-clause-settled g c =
+pub expand-requires-clause-settled : goal.expand-requires-clause-settled
+expand-requires-clause-settled g c =
     (taken (g.T.TaskView.seen c.args.task.now) (reached c.loop-at.table) (reached c.next.new.self) c.in-Some.at c.loop-at.found.bound c.in-Some.ensures.some c.in-Some.ensures.rest c.loop-at.invariant.trail c.loop-at.invariant.settled).1
 
-pub look_at-requires-clause-at : goal.look_at-requires-clause-at
-look_at-requires-clause-at g c =
+pub expand-requires-clause-at : goal.expand-requires-clause-at
+expand-requires-clause-at g c =
     (taken (g.T.TaskView.seen c.args.task.now) (reached c.loop-at.table) (reached c.next.new.self) c.in-Some.at c.loop-at.found.bound c.in-Some.ensures.some c.in-Some.ensures.rest c.loop-at.invariant.trail c.loop-at.invariant.settled).2
 
 pub loop-at-preserved : goal.loop-at-preserved
 loop-at-preserved g c =
     let seen = g.T.TaskView.seen c.args.task.now in
     record {
-      trail = c.in_ok-look_at.ensures.trail;
-      settled = c.in_ok-look_at.ensures.settled;
-      found = c.in_ok-look_at.ensures.found c.args.k (found_taken seen (reached c.loop-at.table) (reached c.next.new.self) c.args.k c.loop-at.found.bound c.loop-at.found.foil c.in-Some.ensures.rest c.loop-at.invariant.found);
-      low = omega (arith, c.loop-at.invariant.low, c.in_ok-look_at.ensures.bound);
-      from = c.in_ok-look_at.ensures.from_width ∙ c.loop-at.invariant.from;
-      into = c.in_ok-look_at.ensures.into_width ∙ c.loop-at.invariant.into;
+      trail = c.in_ok-expand.ensures.trail;
+      settled = c.in_ok-expand.ensures.settled;
+      found = c.in_ok-expand.ensures.found c.args.k (found_taken seen (reached c.loop-at.table) (reached c.next.new.self) c.args.k c.loop-at.found.bound c.loop-at.found.foil c.in-Some.ensures.rest c.loop-at.invariant.found);
+      low = omega (arith, c.loop-at.invariant.low, c.in_ok-expand.ensures.bound);
+      from = c.in_ok-expand.ensures.from_width ∙ c.loop-at.invariant.from;
+      into = c.in_ok-expand.ensures.into_width ∙ c.loop-at.invariant.into;
     }
 
 pub returns-in-None : goal.returns-in-None
@@ -47,13 +47,13 @@ returns-in-None g c =
     subst (HasNoCheaper seen) (found_none seen (reached c.loop-at.table) c.args.k c.loop-at.found.bound c.loop-at.found.foil c.in-None.is c.loop-at.invariant.found)
     (none_cheaper seen c.loop-at.found.bound (reached c.loop-at.table) c.loop-at.invariant.trail c.loop-at.invariant.settled c.in_default.ensures.none)
 
-pub way_back-requires-clause-place : goal.way_back-requires-clause-place
-way_back-requires-clause-place g c =
+pub path_back-requires-clause-place : goal.path_back-requires-clause-place
+path_back-requires-clause-place g c =
     found_within (g.T.TaskView.seen c.args.task.now) (reached c.loop-at.table) (reached c.next.new.self) c.args.k c.loop-at.found.bound c.in-Some-foil.place c.loop-at.found.foil c.in-Some-foil.is c.in_default.ensures.rest c.loop-at.invariant.found
 
-pub way_back-requires-clause-earlier : goal.way_back-requires-clause-earlier
-way_back-requires-clause-earlier g c at way here =
-    parents_earlier (g.T.TaskView.seen c.args.task.now) (reached c.loop-at.table) c.loop-at.invariant.trail at way (ap (λ r. slice_get r.ways at) (sym c.in_default.ensures.rest) ∙ here)
+pub path_back-requires-clause-earlier : goal.path_back-requires-clause-earlier
+path_back-requires-clause-earlier g c at node here =
+    parents_earlier (g.T.TaskView.seen c.args.task.now) (reached c.loop-at.table) c.loop-at.invariant.trail at node (ap (λ r. slice_get r.nodes at) (sym c.in_default.ensures.rest) ∙ here)
 
 pub returns : goal.returns
 returns g c =
@@ -63,4 +63,4 @@ returns g c =
     (none_cheaper seen c.loop-at.found.bound r c.loop-at.invariant.trail c.loop-at.invariant.settled c.in_default.ensures.none)
     (subst (IsFound seen r c.args.k c.loop-at.found.bound) c.in-Some-foil.is c.loop-at.invariant.found)
     (back_over r (reached c.next.new.self) c.in-Some-foil.place c.in_ok-back-in-Some-foil.back.items c.in_default.ensures.rest c.in_ok-back-in-Some-foil.ensures)
-    (c.in_ok-listed-in-Some-foil.ensures ∙ c.turn_round.ensures)
+    (c.in_ok-listed-in-Some-foil.ensures ∙ c.reverse_in_place.ensures)

@@ -15,4 +15,4 @@ invariant-loop-at g l =
     }
 
 abbrev pub decreases-loop-at : goal.decreases-loop-at
-decreases-loop-at g l = 2 * (2 ^ 64 - length (reached l.table).ways) + length (reached l.table).waiting
+decreases-loop-at g l = 2 * (2 ^ 64 - length (reached l.table).nodes) + length (reached l.table).open_nodes
