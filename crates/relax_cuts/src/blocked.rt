@@ -68,7 +68,7 @@ impl BlockedActions {
         Ok(())
     }
 
-    /// A ready action, which is no longer ready.
+    /// Takes a ready action.
     pub fn next(&mut self) -> Option<u32>
         ensures listed { IfSome result (λ action. action < length self.old.before.items) }
         ensures room { IsAsLarge self.old self.new }

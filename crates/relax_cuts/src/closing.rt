@@ -184,7 +184,7 @@ fn loose_atom<T: TaskView>(task: &T, left: &Vec<u64>, among: &Bits) -> Option<u3
     None
 }
 
-// Puts in the atoms that a set lacks to be closed. After `spread` there is none.
+// Puts in the atoms that a set lacks to be closed. After `spread` it lacks nothing.
 fn settle<T: TaskView>(task: &T, left: &Vec<u64>, among: &mut Bits)
     requires task { IsTask (T.seen task.now) }
     requires sized { length left.now.items ≡ length (T.seen task.now).actions }
