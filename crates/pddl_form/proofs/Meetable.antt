@@ -1,4 +1,5 @@
--- The parts that a run reaches can be met: a further section of a problem is due only where one has not stood.
+-- The parts that a run reaches can be met: a further section of a problem is due only if one hasn't
+-- occurred.
 use Rattle.std.proofs.Common.{◌≡◌, Bool, true, false, List, [], ◌∷◌, subst, refl}
 use Rattle.std.specs.Prelude.{not}
 use Rattle.std.specs.List.{AllByRecursion}
@@ -14,14 +15,14 @@ use Rattle.pddl_form.specs.declared.sort.Sort.{Sort}
 use Rattle.pddl_form.specs.declared.sort.Sort.TheVariants as word
 use Rattle.pddl_form.specs.Faults.{fault_at}
 use Rattle.pddl_form.specs.Names.{is_free_sort, is_name_sort, is_term_sort}
-use Rattle.pddl_form.specs.Rows.{only_if, have_all_stood}
+use Rattle.pddl_form.specs.Rows.{only_if, have_all_occurred}
 use Rattle.pddl_form.specs.Runs.{Run, Going, after, noted, goes, run}
 use Rattle.pddl_form.specs.Table.{after_word, after_open, may_close}
 use Rattle.pddl_form.specs.Words.{sort}
 
--- a section is due only where one has not stood
+-- a section is due only if one hasn't occurred
 abbrev pub Meetable : Part → Type 0
-Meetable (part.Statement seen) = have_all_stood seen ≡ false
+Meetable (part.Statement seen) = have_all_occurred seen ≡ false
 Meetable p = Unit {0}
 
 abbrev pub AreMeetable : List Part → Type 0
@@ -37,7 +38,7 @@ good_if : (test : Bool) (n : Next) → IsGood n → IsGood (only_if test n)
 good_if true n good = good
 good_if false n good = tt
 
-good_statement : (seen : StatementsSeen) (all : Bool) → have_all_stood seen ≡ all → IsGood (only_if (not all) (next.One (part.Statement seen)))
+good_statement : (seen : StatementsSeen) (all : Bool) → have_all_occurred seen ≡ all → IsGood (only_if (not all) (next.One (part.Statement seen)))
 good_statement seen true is = tt
 good_statement seen false is = is
 
@@ -126,7 +127,7 @@ good_open part.Effects = (tt, tt)
 good_open part.Negated = (tt, tt)
 good_open part.Cost = (tt, tt)
 good_open part.OfDomain = (tt, tt)
-good_open (part.Statements seen) = good_statement seen (have_all_stood seen) refl
+good_open (part.Statements seen) = good_statement seen (have_all_occurred seen) refl
 good_open part.Facts = (tt, tt)
 good_open part.Goal = (tt, tt)
 good_open part.Goals = (tt, tt)
@@ -148,7 +149,7 @@ goes_good next.Refused due f go d m good all more e = absurd cc
 meetable_along : (due then : List Part) (met m : List Met) → Going due met ≡ Going then m → AreMeetable due → AreMeetable then
 meetable_along due then met m e all = let same : due ≡ then = cc in subst AreMeetable same all
 
--- what is due behind tokens that a run takes can be met
+-- what is due after tokens that a run takes can be met
 pub still_meetable : (due : List Part) (met : List Met) (tokens : List Token) (d : List Part) (m : List Met) → AreMeetable due → run due met tokens ≡ Going d m → AreMeetable d
 still_meetable [] met [] d m all e = meetable_along [] d met m e all
 still_meetable (p ∷ due) met [] d m all e = meetable_along (p ∷ due) d met m e all

@@ -1,5 +1,6 @@
+//! The sections and keys that have occurred so far.
 ghost use Rattle.std.specs.Prelude.{◌≡◌};
-ghost use Rattle.pddl_form.specs.Rows.{no_sections, no_keys, no_statements, have_all_stood};
+ghost use Rattle.pddl_form.specs.Rows.{no_sections, no_keys, no_statements, have_all_occurred};
 
 use crate::parts::{KeysSeen, SectionsSeen, StatementsSeen};
 
@@ -37,9 +38,9 @@ pub fn no_statements() -> StatementsSeen
     }
 }
 
-/// Whether each section of a problem has stood, so that no further one may come.
-pub fn have_all_stood(seen: StatementsSeen) -> bool
-    ensures { result ≡ have_all_stood seen }
+/// Whether each section of a problem has occurred, so that no further one may come.
+pub fn have_all_occurred(seen: StatementsSeen) -> bool
+    ensures { result ≡ have_all_occurred seen }
 {
     seen.init && seen.goal && seen.requirements && seen.objects && seen.metric
 }
