@@ -18,7 +18,7 @@ use Rattle.pddl_form.specs.Actions.{condition_head, effect_head, cost, cost_head
 use Rattle.pddl_form.specs.Grammar.{Sign, Says, Opens, Closes, IsName, IsVariable, IsTerm, IsNumber, IsFree, IsAny, Row, Typed, IsAtom, IsCondition, Count, One, Many, IsCost, total, IsEffect, HasKeys, HasPredicates, HasFunctions, HasSections, IsDomain, HasFacts, HasStatements, IsProblem}
 use Rattle.pddl_form.specs.Names.{is_free_sort, is_name_sort, is_term_sort}
 use Rattle.pddl_form.specs.Problems.{fact_head, valued_head, goal_head}
-use Rattle.pddl_form.specs.Rows.{only_if, no_keys, have_all_occurred}
+use Rattle.pddl_form.specs.Rows.{only_if, no_keys, have_all_stood}
 use Rattle.pddl_form.specs.Typed as typed
 use Rattle.pddl_form.specs.Words.{sort}
 use Rattle.pddl_form.proofs.Derivations.{Meets, stop, one, two}
@@ -299,8 +299,8 @@ facts (HasFacts.total_value {text} number more) =
     two {p = part.Facts} {s = Opens} {first = Says (codes "=") ∷ total (Says text ∷ Closes ∷ [])} refl
     (two {p = part.FactHead} {s = Says (codes "=")} {first = total []} refl (one refl (one refl (stop refl))) (number_meets text number)) (facts more)
 
-left_open : (seen : StatementsSeen) → have_all_occurred seen ≡ false → only_if (not (have_all_occurred seen)) (next.One (part.Statement seen)) ≡ next.One (part.Statement seen)
-left_open seen left = open_passes (next.One (part.Statement seen)) (have_all_occurred seen) left
+left_open : (seen : StatementsSeen) → have_all_stood seen ≡ false → only_if (not (have_all_stood seen)) (next.One (part.Statement seen)) ≡ next.One (part.Statement seen)
+left_open seen left = open_passes (next.One (part.Statement seen)) (have_all_stood seen) left
 
 -- a section that hasn't occurred
 and_false : (a b : Bool) → b ≡ false → (a && b) ≡ false
@@ -311,19 +311,19 @@ false_and : (a b : Bool) → a ≡ false → (a && b) ≡ false
 false_and a b e = ap (λ (x : Bool). x && b) e
 
 module _ (seen : StatementsSeen) where
-  lacks_init : seen.init ≡ false → have_all_occurred seen ≡ false
+  lacks_init : seen.init ≡ false → have_all_stood seen ≡ false
   lacks_init left = false_and seen.init (seen.goal && (seen.requirements && (seen.objects && seen.metric))) left
 
-  lacks_goal : seen.goal ≡ false → have_all_occurred seen ≡ false
+  lacks_goal : seen.goal ≡ false → have_all_stood seen ≡ false
   lacks_goal left = and_false seen.init _ (false_and seen.goal (seen.requirements && (seen.objects && seen.metric)) left)
 
-  lacks_requirements : seen.requirements ≡ false → have_all_occurred seen ≡ false
+  lacks_requirements : seen.requirements ≡ false → have_all_stood seen ≡ false
   lacks_requirements left = and_false seen.init _ (and_false seen.goal _ (false_and seen.requirements (seen.objects && seen.metric) left))
 
-  lacks_objects : seen.objects ≡ false → have_all_occurred seen ≡ false
+  lacks_objects : seen.objects ≡ false → have_all_stood seen ≡ false
   lacks_objects left = and_false seen.init _ (and_false seen.goal _ (and_false seen.requirements _ (false_and seen.objects seen.metric left)))
 
-  lacks_metric : seen.metric ≡ false → have_all_occurred seen ≡ false
+  lacks_metric : seen.metric ≡ false → have_all_stood seen ≡ false
   lacks_metric left = and_false seen.init _ (and_false seen.goal _ (and_false seen.requirements _ (and_false seen.objects seen.metric left)))
 
 statements : {seen : StatementsSeen} {t : List Sign} → HasStatements seen t → Meets (part.Statements seen) t

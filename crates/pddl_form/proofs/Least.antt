@@ -8,7 +8,7 @@ use Rattle.pddl_form.specs.declared.parts.Met.{Met}
 use Rattle.pddl_form.specs.declared.parts.Part.{Part}
 use Rattle.pddl_form.specs.declared.parts.Part.TheVariants as part
 use Rattle.pddl_form.specs.First.{is_written}
-use Rattle.pddl_form.specs.Rows.{have_all_occurred}
+use Rattle.pddl_form.specs.Rows.{have_all_stood}
 use Rattle.pddl_form.specs.Runs.{run}
 use Rattle.pddl_form.proofs.Meetable.{Meetable}
 
@@ -110,7 +110,7 @@ statements_meet r o false true m due met = (_, λ tokens. refl)
 statements_meet r o true false m due met = (_, λ tokens. refl)
 statements_meet r o false false m due met = (_, λ tokens. refl)
 
-statement_meets : (r o i g m : Bool) (due : List Part) (met : List Met) → have_all_occurred (record { requirements = r; objects = o; init = i; goal = g; metric = m }) ≡ false
+statement_meets : (r o i g m : Bool) (due : List Part) (met : List Met) → have_all_stood (record { requirements = r; objects = o; init = i; goal = g; metric = m }) ≡ false
     → Meets (part.Statement (record { requirements = r; objects = o; init = i; goal = g; metric = m })) (one_more i g r o m) due met
 statement_meets r o false true m due met left = (_, λ tokens. refl)
 statement_meets r o false false m due met left = (_, λ tokens. refl)

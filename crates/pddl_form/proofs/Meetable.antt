@@ -15,14 +15,14 @@ use Rattle.pddl_form.specs.declared.sort.Sort.{Sort}
 use Rattle.pddl_form.specs.declared.sort.Sort.TheVariants as word
 use Rattle.pddl_form.specs.Faults.{fault_at}
 use Rattle.pddl_form.specs.Names.{is_free_sort, is_name_sort, is_term_sort}
-use Rattle.pddl_form.specs.Rows.{only_if, have_all_occurred}
+use Rattle.pddl_form.specs.Rows.{only_if, have_all_stood}
 use Rattle.pddl_form.specs.Runs.{Run, Going, after, noted, goes, run}
 use Rattle.pddl_form.specs.Table.{after_word, after_open, may_close}
 use Rattle.pddl_form.specs.Words.{sort}
 
 -- a section is due only if one hasn't occurred
 abbrev pub Meetable : Part → Type 0
-Meetable (part.Statement seen) = have_all_occurred seen ≡ false
+Meetable (part.Statement seen) = have_all_stood seen ≡ false
 Meetable p = Unit {0}
 
 abbrev pub AreMeetable : List Part → Type 0
@@ -38,7 +38,7 @@ good_if : (test : Bool) (n : Next) → IsGood n → IsGood (only_if test n)
 good_if true n good = good
 good_if false n good = tt
 
-good_statement : (seen : StatementsSeen) (all : Bool) → have_all_occurred seen ≡ all → IsGood (only_if (not all) (next.One (part.Statement seen)))
+good_statement : (seen : StatementsSeen) (all : Bool) → have_all_stood seen ≡ all → IsGood (only_if (not all) (next.One (part.Statement seen)))
 good_statement seen true is = tt
 good_statement seen false is = is
 
@@ -127,7 +127,7 @@ good_open part.Effects = (tt, tt)
 good_open part.Negated = (tt, tt)
 good_open part.Cost = (tt, tt)
 good_open part.OfDomain = (tt, tt)
-good_open (part.Statements seen) = good_statement seen (have_all_occurred seen) refl
+good_open (part.Statements seen) = good_statement seen (have_all_stood seen) refl
 good_open part.Facts = (tt, tt)
 good_open part.Goal = (tt, tt)
 good_open part.Goals = (tt, tt)

@@ -8,7 +8,7 @@ use Rattle.pddl_form.specs.declared.parts.Part.{Part}
 use Rattle.pddl_form.specs.declared.parts.Part.TheVariants as part
 use Rattle.pddl_form.specs.declared.parts.StatementsSeen.{StatementsSeen}
 use Rattle.pddl_form.specs.Grammar.{Sign, Says, Opens, Closes, IsName, IsVariable, IsTerm, IsAny, Row, Typed, IsCondition, One, Many, IsEffect, HasKeys, HasPredicates, HasFunctions, HasSections, HasFacts, HasStatements}
-use Rattle.pddl_form.specs.Rows.{only_if, have_all_occurred}
+use Rattle.pddl_form.specs.Rows.{only_if, have_all_stood}
 use Rattle.pddl_form.specs.Words.{sort}
 use Rattle.pddl_form.proofs.Derivations.{Meets, stop, one, two, after_sign}
 use Rattle.pddl_form.proofs.Denotes.{IsEntry, IsTail, Denotes, Follows, if_follows, put}
@@ -50,7 +50,7 @@ step part.Cost Opens t (first, rest, price, e, h) = (Opens ∷ first, price, ap 
 step part.Problem Opens t f = f
 step part.ProblemHead Opens t (name, good, e) = (name, good, ap (λ (x : List Sign). Opens ∷ x) e)
 step part.OfDomain Opens t (first, rest, (name, good, e), more, h) = (name, rest, good, more, ap (λ (x : List Sign). Opens ∷ x) (h ∙ ap (λ (x : List Sign). x ++ rest) e))
-step (part.Statements seen) Opens t f = (if_follows (not (have_all_occurred seen)) (next.One (part.Statement seen)) t f).1
+step (part.Statements seen) Opens t f = (if_follows (not (have_all_stood seen)) (next.One (part.Statement seen)) t f).1
 step part.Facts Opens t (first, rest, fact, more, h) = put (λ x. HasFacts (Opens ∷ x)) t _ h (fact rest more)
 step part.Valued Opens t f = valued_open t f
 step part.Goal Opens t (first, rest, cond, e, h) = (Opens ∷ first, cond, ap (λ (x : List Sign). Opens ∷ x) (h ∙ ap (λ (x : List Sign). first ++ x) e))

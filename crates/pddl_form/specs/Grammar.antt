@@ -154,8 +154,9 @@ pub data HasFunctions : List Sign → Type 0 where
   function : {name : List ℕ} {first rest : List Sign} → IsFree name → Typed IsVariable false first
       → HasFunctions rest → HasFunctions (Opens ∷ Says name ∷ first ++ rest)
   number_function : {name : List ℕ} {first rest : List Sign} → IsFree name
-      → Typed IsVariable false first → HasFunctions rest → HasFunctions
-      (Opens ∷ Says name ∷ first ++ Says (codes "-") ∷ Says (codes "number") ∷ rest)
+      → Typed IsVariable false first → HasFunctions rest
+      → HasFunctions (Opens ∷ Says name ∷ first
+      ++ Says (codes "-") ∷ Says (codes "number") ∷ rest)
 
 -- the sections of a domain in any order, each except the actions at most once, and the domain's `)`
 pub data HasSections : SectionsSeen → List Sign → Type 0 where
@@ -192,7 +193,8 @@ pub data HasFacts : List Sign → Type 0 where
   end : HasFacts (Closes ∷ [])
   fact : {first rest : List Sign} → IsAtom IsName first → HasFacts rest → HasFacts (first ++ rest)
   value : {name : List ℕ} {first rest : List Sign} (text : List ℕ) → IsCostName name
-      → Row IsName first → IsNumber text → HasFacts rest → HasFacts (Opens ∷ Says (codes "=")
+      → Row IsName first → IsNumber text → HasFacts rest
+      → HasFacts (Opens ∷ Says (codes "=")
       ∷ Opens ∷ Says name ∷ first ++ Says text ∷ Closes ∷ rest)
   total_value : {text : List ℕ} {rest : List Sign} → IsNumber text → HasFacts rest
       → HasFacts (Opens ∷ Says (codes "=")
@@ -215,12 +217,14 @@ pub data HasStatements : StatementsSeen → List Sign → Type 0 where
       → IsCondition IsName One first → HasStatements (record seen { goal = true }) rest
       → HasStatements seen (Opens ∷ Says (codes ":goal") ∷ first ++ Closes ∷ rest)
   metric : {seen : StatementsSeen} {rest : List Sign} → seen.metric ≡ false
-      → HasStatements (record seen { metric = true }) rest → HasStatements seen
-      (Opens ∷ Says (codes ":metric") ∷ Says (codes "minimize") ∷ total (Closes ∷ rest))
+      → HasStatements (record seen { metric = true }) rest
+      → HasStatements seen (Opens ∷ Says (codes ":metric")
+      ∷ Says (codes "minimize") ∷ total (Closes ∷ rest))
 
 -- `(define (problem NAME) (:domain NAME) SECTION*)`
 pub data IsProblem : List Sign → Type 0 where
   problem : {name of : List ℕ} {rest : List Sign} → IsName name → IsName of
-      → HasStatements no_statements rest → IsProblem (Opens ∷ Says (codes "define")
+      → HasStatements no_statements rest
+      → IsProblem (Opens ∷ Says (codes "define")
       ∷ Opens ∷ Says (codes "problem") ∷ Says name ∷ Closes
       ∷ Opens ∷ Says (codes ":domain") ∷ Says of ∷ Closes ∷ rest)

@@ -35,6 +35,6 @@ no_statements = record {
 }
 
 -- each section of a problem has occurred
-abbrev pub have_all_occurred : StatementsSeen → Bool
-have_all_occurred seen =
+abbrev pub have_all_stood : StatementsSeen → Bool
+have_all_stood seen =
     seen.init && (seen.goal && (seen.requirements && (seen.objects && seen.metric)))

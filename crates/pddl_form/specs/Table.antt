@@ -7,7 +7,7 @@ use Rattle.pddl_form.specs.declared.parts.Part.TheVariants as part
 use Rattle.pddl_form.specs.declared.next.Next.{Next}
 use Rattle.pddl_form.specs.declared.next.Next.TheVariants as next
 use Rattle.pddl_form.specs.declared.sort.Sort.{Sort}
-use Rattle.pddl_form.specs.Rows.{only_if, no_statements, have_all_occurred}
+use Rattle.pddl_form.specs.Rows.{only_if, no_statements, have_all_stood}
 use Rattle.pddl_form.specs.Names.{is_name_sort}
 use Rattle.pddl_form.specs.Typed.{names, names_more, variables, variables_more}
 use Rattle.pddl_form.specs.Domains.{domain_define, domain_word, section, predicate_name}
@@ -81,7 +81,7 @@ after_open part.Problem = next.One part.ProblemDefine
 after_open part.ProblemHead = next.One part.ProblemWord
 after_open part.OfDomain = next.Two part.OfDomainWord (part.Statements no_statements)
 after_open (part.Statements seen) =
-    only_if (not (have_all_occurred seen)) (next.One (part.Statement seen))
+    only_if (not (have_all_stood seen)) (next.One (part.Statement seen))
 after_open part.Facts = next.Two part.FactHead part.Facts
 after_open part.Valued = next.One part.ValuedHead
 after_open part.Goal = next.Two part.GoalHead part.Close

@@ -1,6 +1,6 @@
 //! The sections and keys that have occurred so far.
 ghost use Rattle.std.specs.Prelude.{◌≡◌};
-ghost use Rattle.pddl_form.specs.Rows.{no_sections, no_keys, no_statements, have_all_occurred};
+ghost use Rattle.pddl_form.specs.Rows.{no_sections, no_keys, no_statements, have_all_stood};
 
 use crate::parts::{KeysSeen, SectionsSeen, StatementsSeen};
 
@@ -39,8 +39,8 @@ pub fn no_statements() -> StatementsSeen
 }
 
 /// Whether each section of a problem has occurred, so that no further one may come.
-pub fn have_all_occurred(seen: StatementsSeen) -> bool
-    ensures { result ≡ have_all_occurred seen }
+pub fn have_all_stood(seen: StatementsSeen) -> bool
+    ensures { result ≡ have_all_stood seen }
 {
     seen.init && seen.goal && seen.requirements && seen.objects && seen.metric
 }

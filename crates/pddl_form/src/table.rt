@@ -17,7 +17,7 @@ use crate::problems::{
     fact_head, goal_head, metric, objects, of_domain_word, problem_define, problem_word, statement,
     valued_head,
 };
-use crate::seen::{have_all_occurred, no_statements};
+use crate::seen::{have_all_stood, no_statements};
 use crate::sort::Sort;
 use crate::typed::{names, names_more, variables, variables_more};
 
@@ -104,10 +104,7 @@ pub fn after_open(part: Part) -> Next
                 seen: no_statements(),
             },
         ),
-        Part::Statements { seen } => only_if(
-            !have_all_occurred(seen),
-            one(Part::Statement { seen }),
-        ),
+        Part::Statements { seen } => only_if(!have_all_stood(seen), one(Part::Statement { seen })),
         Part::Facts => two(Part::FactHead, Part::Facts),
         Part::Valued => one(Part::ValuedHead),
         Part::Goal => two(Part::GoalHead, Part::Close),

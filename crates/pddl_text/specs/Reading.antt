@@ -83,8 +83,8 @@ within_of (mode.InWord from) letters = InWord letters from
 -- what a reader makes of the rest of its text
 abbrev pub left : Reader → Place → Spot → List ℕ → Result (List Tree) TextFault
 left reader end s bytes =
-    reads reader.grove end (tokens_from (within_of reader.mode (string_bytes reader.letters)) s
-    bytes)
+    reads reader.grove end
+    (tokens_from (within_of reader.mode (string_bytes reader.letters)) s bytes)
 
 -- the forest of these trees, in a text that ends at this place
 abbrev pub with_past : Place → Result (List Tree) TextFault → Result Forest TextFault
