@@ -1,3 +1,5 @@
+//! The answer to a request about the contents of its files.
+
 ghost use Rattle.std.specs.Prelude.{◌≡◌, length, map, All, IfOk, IfErr, IfNone, OnOk};
 ghost use Rattle.std.specs.List.{concat};
 ghost use Rattle.model_kit.specs.Vocabulary.{IsGroundAction};
@@ -27,18 +29,17 @@ use mre_words::Request;
 use plan_uses::plan_uses;
 use std::alloc::Global;
 
-/// What is printed where a request is carried out, and the differences that it tells.
+/// An answer: its printed lines, and the differences in them.
 #[derive(Debug, Drop)]
 pub struct Made {
-    /// The told differences of an explanation, or the chosen ones of a list.
+    /// The told differences of an explanation, or the chosen differences of a list.
     pub told: Places,
     /// The lines, each with its line feed.
     pub lines: List<Text>,
 }
 
-/// The answer to a request about files with these contents, which stand in the order of its names;
-/// or why there is none. An
-/// explanation is asked for as an MCE.
+/// The answer to a request about files with these contents, which are in the order of its names, or
+/// why there isn't one. A request for an explanation is for an MCE.
 pub fn answer_texts(
     alloc: Global,
     request: &Request,
@@ -59,7 +60,7 @@ pub fn answer_texts(
     }
 }
 
-// What the request makes of the question.
+// The answer to a question.
 fn answer_question(
     alloc: Global,
     request: &Request,
@@ -80,7 +81,7 @@ fn answer_question(
     }
 }
 
-// The same, where no count is past its limit.
+// The answer to a question with these differences, of which no count is past its limit.
 fn answer_counted(
     alloc: Global,
     request: &Request,
@@ -115,7 +116,7 @@ fn answer_counted(
     }
 }
 
-// The list of the chosen differences, where the plan is valid in the planner's model.
+// The list of the chosen differences, if the plan is valid in the planner's model.
 fn list_valid(
     alloc: Global,
     request: &Request,

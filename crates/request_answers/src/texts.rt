@@ -1,3 +1,5 @@
+//! Reading the models and the plan of a request from their texts.
+
 ghost use Rattle.std.specs.Prelude.{◌≡◌, ◌≤◌, ◌<◌, ◌^◌, [], length, map, All, IfOk, IfErr};
 ghost use Rattle.model_kit.specs.Vocabulary.{IsGroundAction};
 ghost use Rattle.mre_words.specs.Requests.{count_of};
@@ -18,7 +20,7 @@ use std::alloc::Global;
 /// The place of the plan among the contents, counted from 0.
 pub const PLAN_FILE: usize = 4;
 
-/// The two models that texts are of, each in the numbers of its own vocabulary.
+/// The two models of the texts, each in the numbers of its own vocabulary.
 #[derive(Debug, Drop)]
 pub struct Models {
     pub planner: Model,
@@ -95,8 +97,8 @@ fn model_at(
     }
 }
 
-/// The plan of a request, in the numbers of the planner's vocabulary; a request without one has the
-/// empty plan.
+/// The plan of a request, in the numbers of the planner's vocabulary; a request without a plan has
+/// the empty plan.
 pub fn read_steps(
     alloc: Global,
     request: &Request,
@@ -127,7 +129,7 @@ pub fn read_steps(
     }
 }
 
-/// Whether the request is about a plan.
+/// Whether the request has a plan.
 pub fn has_plan(request: &Request) -> bool
     ensures { result ≡ is_planned request.now }
 {
