@@ -1,11 +1,11 @@
 -- Two models in the numbers of one vocabulary have a list of all their differences: the places at which they differ, in order, each with its content in both models.
-use Rattle.std.proofs.Common.{◌≡◌, ℕ, ◌+◌, ◌<◌, ◌^◌, Bool, true, false, cond, ◌&&◌, not, List, [], ◌∷◌, ◌++◌, length, map, Option, None, Some, refl, sym, ap, subst, ◌∙◌, arith, ⊎_elim, inl, inr}
+use Rattle.std.proofs.Common.{◌≡◌, ℕ, ◌<◌, ◌^◌, Bool, true, false, cond, ◌&&◌, not, List, [], ◌∷◌, ◌++◌, length, map, Option, None, Some, refl, sym, ap, subst, ◌∙◌, arith, ⊎_elim, inl, inr}
 use Rattle.std.specs.Prelude.{◌⊎◌, ◌≢◌, ◌==◌, nat_lt, All, Contains, IsTrue, slice_get}
 use Rattle.std.specs.Bool.{beq}
 use Rattle.std.specs.List.{flat_map, list_any, range_with_len}
 use Rattle.std.specs.Option.{option_map_or}
 use Rattle.std.specs.Cmp.Lexicographic.{pointwise, pointwise_decides}
-use Rattle.std.proofs.lemmas.Bool.{and_parts, ltb-true, cases_Bool, cases_lt, cases_order}
+use Rattle.std.proofs.lemmas.Bool.{and_parts, ltb-true, cases_lt, cases_order}
 use Rattle.std.proofs.lemmas.Bool.Decides.{Decides-eqb}
 use Rattle.std.proofs.lemmas.List.Elements.{All-nil, All-cons, All-contains, Contains-append_left, Contains-append_right}
 use Rattle.std.proofs.lemmas.Option.{slice_get_past, slice_get_within}
@@ -22,7 +22,7 @@ use Rattle.model_kit.specs.declared.model.CostExpr.TheVariants.{Number, Call}
 use Rattle.model_kit.specs.Same.{same_numbers, same_term, same_atom, same_schema_atom}
 use Rattle.model_kit.specs.Vocabulary.{is_object_of, fits_signature, is_ground_atom, is_schema_atom}
 use Rattle.model_kit.specs.Features.{is_value}
-use Rattle.model_kit.specs.Places.{Place, Init, Goal, Knows, Pre, Add, Del, Cost, Value, Content, Feature, Price, Worth, Nothing, Meaning, meaning, schema_has, value_of}
+use Rattle.model_kit.specs.Places.{Place, Init, Goal, Knows, Pre, Add, Del, Cost, Value, Content, Feature, Price, Worth, Nothing, meaning, schema_has, value_of}
 use Rattle.model_kit.specs.Printed.{printed}
 use Rattle.model_kit.specs.Differences.{group, IsListedBefore, AreDifferences}
 use Rattle.model_kit.proofs.Alike.{same_numbers-decides, same_term-decides, same_atom-decides, same_schema_atom-decides}
@@ -35,7 +35,7 @@ use Rattle.model_kit.proofs.TypeLemmas.{entry_passes}
 use Rattle.feature_diff.specs.declared.difference.Difference.{Difference}
 use Rattle.feature_diff.specs.declared.difference.Difference.TheVariants as difference
 use Rattle.feature_diff.specs.Differing.{place_of, places_of, Says, IsCost, FitsWords, AreDifferencesOf}
-use Rattle.joint_models.proofs.Sorting.{AreKept, kept_of, pairs_of, equal_known, texts_trans, texts_total}
+use Rattle.joint_models.proofs.Sorting.{kept_of, pairs_of, equal_known, texts_trans, texts_total}
 
 -- ---- equal contents
 

@@ -1,13 +1,12 @@
 -- Each plan of ground actions is valid in a model, or has a first fault there.
-use Rattle.std.proofs.Common.{◌≡◌, ℕ, ◌+◌, Bool, true, false, List, [], ◌∷◌, ◌++◌, length, map, refl, sym, ap, subst, ◌∙◌, arith, ⊎_elim, inl, inr}
-use Rattle.std.specs.Prelude.{◌⊎◌, ◌≢◌, All, Contains, IsNone, IsTrue, is_some}
+use Rattle.std.proofs.Common.{◌≡◌, ℕ, ◌+◌, Bool, true, false, List, [], ◌∷◌, ◌++◌, length, map, refl, sym, ap, subst, ◌∙◌, ⊎_elim, inl, inr}
+use Rattle.std.specs.Prelude.{◌⊎◌, All, Contains, IsNone, IsTrue, is_some}
 use Rattle.std.specs.List.{list_any}
 use Rattle.std.proofs.lemmas.Bool.{true≢false, cases_Bool}
 use Rattle.std.proofs.lemmas.List.Elements.{All-contains, All-head, All-tail}
 use Rattle.mre_base.proofs.Listed.{map-contains}
 use Rattle.model_kit.specs.declared.vocabulary.Vocabulary.{Vocabulary}
 use Rattle.model_kit.specs.declared.atom.GroundAtom.{GroundAtom}
-use Rattle.model_kit.specs.declared.atom.SchemaAtom.{SchemaAtom}
 use Rattle.model_kit.specs.declared.action.GroundAction.{GroundAction}
 use Rattle.model_kit.specs.declared.model.Model.{Model}
 use Rattle.model_kit.specs.declared.judging.NamedJudgement.TheVariants.{Fails, NoCost, GoalMissing}
@@ -17,7 +16,7 @@ use Rattle.model_kit.specs.Places.{Goal, Pre, Meaning, meaning}
 use Rattle.model_kit.specs.Printed.{atom_form}
 use Rattle.model_kit.specs.Differences.{IsPrintedBefore}
 use Rattle.model_kit.specs.Runs.{State, Has, instance, cost_of, Needs, Applies, After, Leads, Initial, IsGoal, IsValid}
-use Rattle.model_kit.specs.Judgement.{IsFirstPrinted, Lacks, IsOpen, StopsAt, Judges}
+use Rattle.model_kit.specs.Judgement.{IsFirstPrinted, Lacks, IsOpen, Judges}
 use Rattle.model_kit.proofs.Alike.{same_atom-decides, same_schema_atom-decides}
 use Rattle.model_kit.proofs.ActionLemmas.{signature_of, instance_ground, schema_kept}
 use Rattle.model_kit.proofs.FiniteLemmas.{IsFinite, holds, Mirrors, start, start_mirrors, makes, makes_decides, next, next_mirrors}

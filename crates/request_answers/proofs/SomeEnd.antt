@@ -1,5 +1,5 @@
 -- Each list of contents has an answer, or a stop that is due.
-use Rattle.std.proofs.Common.{◌≡◌, ℕ, ◌+◌, ◌<◌, ◌≤◌, ◌^◌, Bool, true, false, max, zero, suc, List, [], ◌∷◌, length, map, Some, refl, sym, ap, ◌∙◌, subst, arith, ⊎_elim, inl, inr}
+use Rattle.std.proofs.Common.{◌≡◌, ℕ, ◌+◌, ◌<◌, ◌≤◌, ◌^◌, Bool, true, false, zero, suc, List, [], ◌∷◌, length, map, Some, refl, sym, ap, ◌∙◌, arith, ⊎_elim, inl, inr}
 use Rattle.std.specs.Prelude.{◌⊎◌, ◌≢◌, All, IsTrue, replicate, slice_get}
 use Rattle.std.specs.Ordering.{nat_cmp}
 use Rattle.std.specs.FinSet as set
@@ -27,14 +27,12 @@ use Rattle.model_kit.specs.Vocabulary.{IsGroundAction}
 use Rattle.model_kit.specs.Printed.{atom_form, action_form}
 use Rattle.model_kit.specs.Places.{meaning}
 use Rattle.model_kit.specs.Runs.{IsValid, IsCheapest, cost}
-use Rattle.model_kit.specs.Pairs.{Agree, ArePaired}
-use Rattle.model_kit.specs.Explanations.{Task, IsPosed}
+use Rattle.model_kit.specs.Pairs.{ArePaired}
+use Rattle.model_kit.specs.Explanations.{IsPosed}
 use Rattle.model_kit.specs.Sentences.{explanation}
 use Rattle.model_kit.proofs.FiniteLemmas.{cheaper_or_none}
 use Rattle.model_kit.proofs.LawLemmas.{mce_law, mme_law}
 use Rattle.model_kit.proofs.PairLemmas.{plan_ground}
-use Rattle.joint_models.specs.declared.stop.PairFault.{PairFault}
-use Rattle.joint_models.specs.Disagreements.{IsFirstDisagreement}
 use Rattle.joint_models.proofs.Alikeness.{told_disagree}
 use Rattle.joint_models.proofs.FirstDisagreement.{agree_or_not}
 use Rattle.joint_models.proofs.SomePair.{some_pair}
@@ -52,7 +50,7 @@ use Rattle.request_answers.specs.declared.stop.AnswerStop.TheVariants.{Misread, 
 use Rattle.request_answers.specs.declared.stop.PlanFault.{PlanFault}
 use Rattle.request_answers.specs.declared.stop.PlanFault.TheVariants.{StepNeeds, StepHasNoCost, EndsWithout}
 use Rattle.request_answers.specs.Texts.{text_at, has_plan, AreModels, IsPlanIn, IsMisreadModel, planner_domain, planner_problem, user_domain, user_problem, of_model, of_plan}
-use Rattle.request_answers.specs.Counts.{most_of, most_parameters, AreSmall, AreWithinLimits}
+use Rattle.request_answers.specs.Counts.{most_of, most_parameters, AreSmall}
 use Rattle.request_answers.specs.Questions.{Pose, AreCounted, IsFault, is_served, AreServed, AreServedWords, IsUnserved, of_words, of_differences}
 use Rattle.request_answers.specs.Questions as unserved
 use Rattle.request_answers.specs.Outputs.{IsOfKind, IsAnswer, listing}

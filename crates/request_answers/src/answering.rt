@@ -54,10 +54,8 @@ pub fn answer_texts(
     ensures err { IfErr result (IsDue request.now (map (λ bytes. bytes.items) contents.now)) }
     ensures of_file { IfErr result (IsOfFile (count_of request.now)) }
 {
-    match read_question(alloc, request, contents) {
-        Ok(question) => answer_question(alloc, request, &question),
-        Err(stop) => Err(stop),
-    }
+    let question = read_question(alloc, request, contents)?;
+    answer_question(alloc, request, &question)
 }
 
 // The answer to a question.
@@ -75,10 +73,8 @@ fn answer_question(
     ensures whole { IfOk result (λ made. All IsLine made.lines) }
     ensures err { IfErr result (IsOfAnswering request.now question.now) }
 {
-    match count(alloc, &question.pair, &question.plan) {
-        Ok(differences) => answer_counted(alloc, request, question, &differences),
-        Err(stop) => Err(stop),
-    }
+    let differences = count(alloc, &question.pair, &question.plan)?;
+    answer_counted(alloc, request, question, &differences)
 }
 
 // The answer to a question with these differences, of which no count is past its limit.
@@ -137,8 +133,6 @@ fn list_valid(
         (meaning question.now.pair.planner)
         question.now.plan.steps) }
 {
-    match judge(alloc, question.pair.planner(), &question.plan) {
-        Ok(_) => Ok(list(alloc, request, question, differences, chosen)?),
-        Err(stop) => Err(stop),
-    }
+    judge(alloc, question.pair.planner(), &question.plan)?;
+    Ok(list(alloc, request, question, differences, chosen)?)
 }

@@ -26,9 +26,7 @@ pub fn count(alloc: Global, pair: &Pair, plan: &Plan) -> Result<List<Difference>
     ensures ok { IfOk result (AreWithinLimits pair.now.planner pair.now.user plan.now.steps) }
     ensures err { IfErr result (IsOfCounts pair.now.planner pair.now.user plan.now.steps) }
 {
-    if let Err(stop) = measure(pair.words()) {
-        return Err(stop);
-    }
+    measure(pair.words())?;
     match pair.differences(alloc) {
         Ok(differences) => {
             let found = plan.steps.len();

@@ -54,17 +54,10 @@ pub fn explain(
         question.now.unserved (length differences.now)) }
 {
     let planner = question.pair.planner();
-    let cost = match judge(alloc, planner, &question.plan) {
-        Ok(cost) => cost,
-        Err(stop) => return Err(stop),
-    };
-    if let Err(stop) = serve(question.unserved, differences.len()) {
-        return Err(stop);
-    }
-    match refuse_cheaper(alloc, planner, &question.plan, cost) {
-        Ok(()) => Ok(first(alloc, question, differences)?),
-        Err(stop) => Err(stop),
-    }
+    let cost = judge(alloc, planner, &question.plan)?;
+    serve(question.unserved, differences.len())?;
+    refuse_cheaper(alloc, planner, &question.plan, cost)?;
+    Ok(first(alloc, question, differences)?)
 }
 
 // Passes if an explanation can be searched for. The first domain whose words no search serves is

@@ -48,10 +48,8 @@ pub fn read_question(
     ensures err { IfErr result (IsOfQuestion request.now
         (map (λ bytes. bytes.items) contents.now)) }
 {
-    match read_texts(alloc, request, contents) {
-        Ok(texts) => join_texts(alloc, texts),
-        Err(stop) => Err(stop),
-    }
+    let texts = read_texts(alloc, request, contents)?;
+    join_texts(alloc, texts)
 }
 
 // The models and the plan.
@@ -66,10 +64,8 @@ fn read_texts(
     ensures err { IfErr result (IsOfQuestion request.now
         (map (λ bytes. bytes.items) contents.now)) }
 {
-    match read_models(alloc, contents) {
-        Ok(models) => with_plan(alloc, request, contents, models),
-        Err(stop) => Err(stop),
-    }
+    let models = read_models(alloc, contents)?;
+    with_plan(alloc, request, contents, models)
 }
 
 // The models and the plan, whose text is still to be read.
@@ -90,10 +86,8 @@ fn with_plan(
     ensures err { IfErr result (IsOfPlanText request.now (map (λ bytes. bytes.items) contents.now)
         models.planner) }
 {
-    match read_steps(alloc, request, contents, &models.planner) {
-        Ok(plan) => Ok(Texts { models, plan }),
-        Err(stop) => Err(stop),
-    }
+    let plan = read_steps(alloc, request, contents, &models.planner)?;
+    Ok(Texts { models, plan })
 }
 
 // The question of the models and the plan.

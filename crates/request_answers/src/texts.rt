@@ -39,22 +39,11 @@ pub fn read_models(alloc: Global, contents: &List<Vec<u8>>) -> Result<Models, An
     ensures user_whole { IfOk result (λ made. made.user.unknown ≡ []) }
     ensures err { IfErr result (IsOfModels (map (λ bytes. bytes.items) contents.now)) }
 {
-    let domain = match domain_at(alloc, contents, 0) {
-        Ok(domain) => domain,
-        Err(stop) => return Err(stop),
-    };
-    let planner = match model_at(alloc, contents, 1, &domain) {
-        Ok(model) => model,
-        Err(stop) => return Err(stop),
-    };
-    let other = match domain_at(alloc, contents, 2) {
-        Ok(domain) => domain,
-        Err(stop) => return Err(stop),
-    };
-    match model_at(alloc, contents, 3, &other) {
-        Ok(user) => Ok(Models { planner, user }),
-        Err(stop) => Err(stop),
-    }
+    let domain = domain_at(alloc, contents, 0)?;
+    let planner = model_at(alloc, contents, 1, &domain)?;
+    let other = domain_at(alloc, contents, 2)?;
+    let user = model_at(alloc, contents, 3, &other)?;
+    Ok(Models { planner, user })
 }
 
 // The domain of the text at a place.
