@@ -83,8 +83,8 @@ abbrev pub atoms_where : (When → Bool) → List Case → List ℕ
 atoms_where test cases = map (λ case. case.atom) (filter (λ case. test case.when) cases)
 
 -- an action and a task, given which conditions count for what helps a list to be valid (initial
--- facts and adds), which count for what
--- hinders it (goals, preconditions and deletes), and what the actions cost
+-- facts and adds), which count for what hinders it (goals, preconditions and deletes), and what the
+-- actions cost
 abbrev pub action_where : (When → Bool) → (When → Bool) → (CaseAction → Option ℕ) → CaseAction
     → ActionMeaning
 action_where helps hinders cost action = record {

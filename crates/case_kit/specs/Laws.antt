@@ -44,8 +44,8 @@ abbrev pub IsValidWithin : TaskMeaning → List ℕ → ℕ → Type 0
 IsValidWithin task list cost = IsValid task list × (cost_of task list ≤ cost)
 
 -- what is valid in a member is valid in the permissive task, and what is valid in the restrictive
--- task is valid in each member, at no
--- greater cost; so it is with the tasks of a cube inside another one
+-- task is valid in each member, at no greater cost; so it is with the tasks of a cube inside
+-- another one
 pub record ListLaw : Type 0 where
   pub from_member : (table : CaseTable) (cube : CubeMeaning) (told : Told) (list : List ℕ)
       → is_member cube told ≡ true →

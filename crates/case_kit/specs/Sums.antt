@@ -27,9 +27,8 @@ abbrev pub greatest_sum : CaseTable → CubeMeaning → List ℕ → Option ℕ
 greatest_sum table cube list = sum_of (restrictive table cube) list
 
 -- a valid list has a sum, which is its cost; in each member a list costs no less than its least
--- cost over the cube and no more than its
--- greatest; and the least and greatest costs over an inner cube lie between those over the outer
--- one
+-- cost over the cube and no more than its greatest; and the least and greatest costs over an inner
+-- cube lie between those over the outer one
 pub record SumLaw : Type 0 where
   pub valid : (task : TaskMeaning) (list : List ℕ) → IsValid task list
       → sum_of task list ≡ Some (cost_of task list)

@@ -9,8 +9,7 @@ use mre_base::{Copied, List, NoMemory};
 use std::alloc::Global;
 
 /// A ground action in all models: the cases of its preconditions, adds and deletes, its cost, and
-/// when a model knows it. Where it isn't
-/// known it has no cost.
+/// when a model knows it. Where it isn't known it has no cost.
 #[derive(Debug)]
 pub struct CaseAction {
     pub pre: List<Case>,

@@ -16,15 +16,14 @@ pub fn law_members()
 {}
 
 /// What is valid in a member is valid in the permissive task, and what is valid in the restrictive
-/// task is valid in each member, at no
-/// greater cost. The two tasks of an inner cube are between those of the outer one.
+/// task is valid in each member, at no greater cost. The two tasks of an inner cube are between
+/// those of the outer one.
 pub fn law_lists()
     ensures { ListLaw }
 {}
 
 /// What a list costs in a member lies between its least and its greatest cost over the cube, where
-/// an absent cost is above every number,
-/// and so do its least and greatest costs over an inner cube.
+/// an absent cost is above every number, and so do its least and greatest costs over an inner cube.
 pub fn law_sums()
     ensures { SumLaw }
 {}

@@ -60,8 +60,7 @@ impl CaseTable {
     }
 
     /// The task in which all that may help is there, and what may hinder is not: each list that is
-    /// valid in some member of the cube is
-    /// valid here, at no greater cost.
+    /// valid in some member of the cube is valid here, at no greater cost.
     pub fn permissive(&self, alloc: Global, cube: &Cube) -> Result<Task, NoMemory>
         requires cube { IsCube self.now.d cube.now }
         ensures permissive { IfOk result (λ task. IsPermissive self.now cube.now (meant task)) }
@@ -71,8 +70,7 @@ impl CaseTable {
     }
 
     /// The task in which all that may hinder is there, and what may help is not: each list that is
-    /// valid here is valid in every member
-    /// of the cube, at no greater cost.
+    /// valid here is valid in every member of the cube, at no greater cost.
     pub fn restrictive(&self, alloc: Global, cube: &Cube) -> Result<Task, NoMemory>
         requires cube { IsCube self.now.d cube.now }
         ensures restrictive { IfOk result (λ task. IsRestrictive self.now cube.now (meant task)) }

@@ -4,8 +4,7 @@ ghost use Rattle.std.specs.Prelude.{◌≡◌};
 ghost use Rattle.case_kit.specs.Evaluated.{opposite};
 
 /// Which of the two tasks of a cube is meant: the one in which every list that is valid in some
-/// member is valid, or the one whose valid
-/// lists are valid in every member.
+/// member is valid, or the one whose valid lists are valid in every member.
 #[derive(Clone, Copy, Debug)]
 pub enum Way {
     Permissive,
