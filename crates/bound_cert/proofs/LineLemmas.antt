@@ -1,4 +1,4 @@
--- Lines of a bound proof: what keeps every rule breaks none, a proof's lines all keep them, and where the first fault is.
+-- Lines of a bound proof: a line that keeps every rule breaks none, all lines of a proof keep them, and the place of the first fault.
 use Rattle.std.proofs.Common.{◌≡◌, ℕ, suc, ◌+◌, ◌≤◌, ◌<◌, true, false, List, [], ◌∷◌, ◌++◌, length, take, drop, Some, All, refl, sym, ap, ◌∙◌, arith, subst, ◌⊎◌, inl, inr, append_assoc, slice_get}
 use Rattle.std.proofs.lemmas.Bool.{true≢false}
 use Rattle.std.proofs.lemmas.List.{append-nil, length-append, length-map, length-take-le, map-append}
@@ -19,8 +19,10 @@ use Rattle.bound_cert.specs.declared.proof.BoundFault.{BoundFault}
 use Rattle.bound_cert.specs.Formed.{IsInRange, cuts_of}
 use Rattle.bound_cert.specs.Lines.{Line, Own, OfExpanded, OfPruned, OfCut, cut_lines, lines_by, state_lines, lines, proof_lines, rank, Breaks, BreaksFirst, Keeps, IsFirstFault}
 use Rattle.bound_cert.specs.Proven.{numbered, IsThere, IsLeft, IsBoundProof}
-use Rattle.bound_cert.proofs.ListLemmas.{take_next, split_at}
-use Rattle.bound_cert.proofs.RoomLemmas.{weight_of-append, next_cuts}
+use Rattle.mre_base.proofs.Loops.{take_item}
+use Rattle.bound_cert.proofs.ListLemmas.{split_at}
+use Rattle.task_kit.proofs.CutWeights.{weight_of-append}
+use Rattle.bound_cert.proofs.RoomLemmas.{next_cuts}
 
 -- ---- lists of lines
 pub cut_lines-append : (state : Numbers) (before xs ys : List CutMeaning) → cut_lines state before (xs ++ ys) ≡ cut_lines state before xs ++ cut_lines state (before ++ xs) ys
@@ -48,12 +50,12 @@ length-state_lines atoms s = length-lines_by atoms (numbered s) s.how
 -- the lines up to a state, and those of the state
 pub lines_next : (atoms : ℕ) (list : List BoundState) (i : ℕ) (s : BoundState) → slice_get list i ≡ Some s → lines atoms (take (i + 1) list) ≡ lines atoms (take i list) ++ state_lines atoms s
 lines_next atoms list i s at =
-    ap (lines atoms) (take_next list i s at) ∙ lines-append atoms (take i list) (s ∷ []) ∙ ap (λ ls. lines atoms (take i list) ++ ls) (append-nil (state_lines atoms s))
+    ap (lines atoms) (take_item list i s at) ∙ lines-append atoms (take i list) (s ∷ []) ∙ ap (λ ls. lines atoms (take i list) ++ ls) (append-nil (state_lines atoms s))
 
 pub lines_split : (atoms : ℕ) (list : List BoundState) (i : ℕ) (s : BoundState) → slice_get list i ≡ Some s → lines atoms list ≡ (lines atoms (take i list) ++ state_lines atoms s) ++ lines atoms (drop (i + 1) list)
 lines_split atoms list i s at =
     ap (lines atoms) (split_at list i s at) ∙ lines-append atoms (take i list ++ s ∷ []) (drop (i + 1) list)
-    ∙ ap (λ ls. ls ++ lines atoms (drop (i + 1) list)) (ap (lines atoms) (sym (take_next list i s at)) ∙ lines_next atoms list i s at)
+    ∙ ap (λ ls. ls ++ lines atoms (drop (i + 1) list)) (ap (lines atoms) (sym (take_item list i s at)) ∙ lines_next atoms list i s at)
 
 -- the line counts within the number of lines
 pub few_lines : (atoms : ℕ) (list : List BoundState) (i : ℕ) (s : BoundState) → slice_get list i ≡ Some s → length (lines atoms (take i list)) + (length (cuts_of s.how) + 1) ≤ length (lines atoms list)
@@ -63,7 +65,7 @@ few_lines atoms list i s at =
     let b = length-append (lines atoms (take i list)) (state_lines atoms s) in
     omega (arith, e, a, b, length-state_lines atoms s)
 
--- ---- what keeps every rule breaks none
+-- ---- a line that keeps every rule breaks none
 module _ (task : TaskMeaning) (k : ℕ) (states : List BoundState) where
   not_both : (a b : ℕ) → a < b → b ≤ a → ⊥
   not_both a b lt le = omega arith
@@ -87,7 +89,7 @@ module _ (task : TaskMeaning) (k : ℕ) (states : List BoundState) where
   keeps_unbroken (OfCut state before cut) keeps rules.Charge breaks = not_both (price task breaks.0) _ breaks.1 (keeps.2 breaks.0)
   keeps_unbroken line keeps rule breaks = breaks
 
-  -- ---- what breaks a rule, and none before it
+  -- ---- a line that breaks a rule and no rule before it
   cut_is_first : (state : Numbers) (before : List CutMeaning) (cut : CutMeaning) (earlier : BoundRule) → rank earlier < 5 → ¬ Breaks task k states earlier (OfCut state before cut)
   cut_is_first state before cut rules.Start lt breaks = breaks
   cut_is_first state before cut rules.Below lt breaks = breaks
@@ -117,7 +119,7 @@ module _ (task : TaskMeaning) (k : ℕ) (states : List BoundState) where
         ]
     first rules.Charge lt breaks = absurd (omega arith)
 
-  -- ---- where the first fault is
+  -- ---- the place of the first fault
   pub fault_here : (line : Line) (later : List Line) (from : ℕ) (fault : BoundFault) → BreaksFirst task k states line fault.rule → fault.line ≡ from → IsFirstFault task k states (line ∷ later) from fault
   fault_here line later from fault broken at =
       record { before = []; line = line; later = later; here = refl; counted = omega arith; unbroken = All-nil (λ l. (rule : BoundRule) → ¬ Breaks task k states rule l); broken = broken }
@@ -156,7 +158,7 @@ module _ (task : TaskMeaning) (k : ℕ) (states : List BoundState) where
       at_last [] all = All-head (Keeps task k states) f.line f.later all
       at_last (l ∷ before) all = at_last before (All-tail (Keeps task k states) l (before ++ f.line ∷ f.later) all)
 
-  -- ---- the lines of a state, by how it was left
+  -- ---- the lines of a state, expanded or pruned
   module _ (s : BoundState) where
     abbrev of : List Cut → List CutMeaning
     of cuts = cuts_meaning task.atoms cuts
@@ -225,7 +227,7 @@ module _ (task : TaskMeaning) (k : ℕ) (states : List BoundState) where
         ∙ ap (cut_lines state []) (map-append (cut_meaning task.atoms) (take i cuts ++ cut ∷ []) (drop (i + 1) cuts))
         ∙ cut_lines-append state [] (cuts_meaning task.atoms (take i cuts ++ cut ∷ [])) (cuts_meaning task.atoms (drop (i + 1) cuts))
         ∙ ap (λ ls. ls ++ cut_lines state (cuts_meaning task.atoms (take i cuts ++ cut ∷ [])) (cuts_meaning task.atoms (drop (i + 1) cuts)))
-        (ap (λ cs. cut_lines state [] (cuts_meaning task.atoms cs)) (sym (take_next cuts i cut at)) ∙ next_lines)
+        (ap (λ cs. cut_lines state [] (cuts_meaning task.atoms cs)) (sym (take_item cuts i cut at)) ∙ next_lines)
 
     pub fault_among_cuts : (from : ℕ) (fault : BoundFault) → fault.line ≡ from + i → BreaksFirst task k states (OfCut state ms (cut_meaning task.atoms cut)) fault.rule
         → IsFirstFault task k states (cut_lines state [] (cuts_meaning task.atoms cuts)) from fault
@@ -271,7 +273,7 @@ module _ (task : TaskMeaning) (k : ℕ) (states : List BoundState) where
   pub proof_keeps : IsBoundProof task k states → All (Keeps task k states) (proof_lines task.atoms states)
   proof_keeps proof = All-cons (Keeps task k states) Own (lines task.atoms states) proof.start (all_keep states proof.below proof.each)
 
-  -- ---- and lines that keep the rules are those of a bound proof
+  -- ---- lines that keep the rules are those of a bound proof
   front : (xs ys : List Line) → All (Keeps task k states) (xs ++ ys) → All (Keeps task k states) xs
   front [] ys all = All-nil (Keeps task k states)
   front (x ∷ xs) ys all = All-cons (Keeps task k states) x xs (All-head (Keeps task k states) x (xs ++ ys) all) (front xs ys (All-tail (Keeps task k states) x (xs ++ ys) all))

@@ -4,27 +4,20 @@ use Rattle.std.specs.Prelude.{Contains, slice_get, Option, None, IfNone, IfSome}
 use Rattle.std.proofs.lemmas.List.{take_more, take-append-drop}
 use Rattle.std.proofs.lemmas.List.Elements.{Contains-get_or}
 use Rattle.std.proofs.lemmas.Option.{slice_get_within, get_or_from_slice_get}
-use Rattle.task_kit.proofs.PlaceLemmas.{none_some, same_some}
+use Rattle.std.proofs.lemmas.Option.{none-some}
+use Rattle.mre_base.proofs.Loops.{take_item}
+use Rattle.mre_base.proofs.Options.{same_some}
 
--- the items up to a place, and the item there
-pub take_next : {X : Type 0} (xs : List X) (i : ℕ) (x : X) → slice_get xs i ≡ Some x → take (i + 1) xs ≡ take i xs ++ x ∷ []
-take_next xs i x e = take_more xs i x (slice_get_within xs i x e) ∙ ap (λ y. take i xs ++ y ∷ []) (get_or_from_slice_get xs i x x e)
-
+-- the items up to a place, the item there, and the rest
 pub split_at : {X : Type 0} (xs : List X) (i : ℕ) (x : X) → slice_get xs i ≡ Some x → xs ≡ (take i xs ++ x ∷ []) ++ drop (i + 1) xs
-split_at xs i x e = sym (take-append-drop (i + 1) xs) ∙ ap (λ ys. ys ++ drop (i + 1) xs) (take_next xs i x e)
+split_at xs i x e = sym (take-append-drop (i + 1) xs) ∙ ap (λ ys. ys ++ drop (i + 1) xs) (take_item xs i x e)
 
--- the item at a place
-pub item_of : {X : Type 0} (P : X → Type 0) (xs : List X) (i : ℕ) (x : X) → slice_get xs i ≡ Some x → All P xs → P x
-item_of P xs i x at each = subst P (get_or_from_slice_get xs i x x at) (each i x (slice_get_within xs i x at))
-
-pub item_among : {X : Type 0} (xs : List X) (i : ℕ) (x : X) → slice_get xs i ≡ Some x → Contains xs x
-item_among xs i x at = subst (Contains xs) (get_or_from_slice_get xs i x x at) (Contains-get_or xs i x (slice_get_within xs i x at))
-
+-- the item at a place is unique
 pub same_item : {X : Type 0} (xs : List X) (i j : ℕ) (x y : X) → slice_get xs i ≡ Some x → slice_get xs j ≡ Some y → i ≡ j → x ≡ y
 same_item xs i j x y at at' e = same_some x y (sym at ∙ ap (slice_get xs) e ∙ at')
 
 pub mapped_at : {X Y : Type 0} (f : X → Y) (xs : List X) (i : ℕ) (x : X) → slice_get xs i ≡ Some x → slice_get (map f xs) i ≡ Some (f x)
-mapped_at f [] i x e = absurd (none_some x e)
+mapped_at f [] i x e = absurd (none-some x e)
 mapped_at f (y ∷ xs) zero x e = ap (λ z. Some (f z)) (same_some y x e)
 mapped_at f (y ∷ xs) (suc i) x e = mapped_at f xs i x e
 

@@ -1,4 +1,4 @@
--- Looking for a state among states that ascend.
+-- The search for a state among ascending states.
 use Rattle.std.proofs.Common.{◌≡◌, ℕ, ◌+◌, ◌≤◌, ◌<◌, Bool, true, false, nat_eq, nat_lt, if◌then◌else◌, List, [], ◌∷◌, length, map, Some, refl, sym, ap, ◌∙◌, arith, subst, inl, inr, All, slice_get}
 use Rattle.std.proofs.lemmas.Bool.{false≢true, true≢false, false_from_ne_true, cases_lt}
 use Rattle.std.proofs.lemmas.Bool.Decides.{nat_tests}
@@ -6,39 +6,28 @@ use Rattle.std.proofs.lemmas.List.{length-map}
 use Rattle.std.proofs.lemmas.Option.{slice_get_within, get_or_from_slice_get}
 use Rattle.mre_base.specs.Before.{is_earlier_list}
 use Rattle.mre_base.specs.Sets.{BitSet, numbers_below}
-use Rattle.mre_base.proofs.ListOrder.{is_earlier_list-itself}
+use Rattle.mre_base.proofs.ListOrder.{is_earlier_list-itself, earlier_trans}
 use Rattle.task_kit.specs.Tasks.{Numbers}
 use Rattle.task_kit.specs.Bounds.{IsKnownWithin}
 use Rattle.task_kit.proofs.AtomLemmas.{same_bits}
-use Rattle.task_kit.proofs.PlaceLemmas.{item_there}
+use Rattle.mre_base.proofs.Listed.{item_at}
 use Rattle.bound_cert.specs.declared.proof.BoundState.{BoundState}
 use Rattle.bound_cert.specs.Formed.{is_listed_before, IsAscending}
 use Rattle.bound_cert.specs.Proven.{numbered, IsThere}
-use Rattle.bound_cert.proofs.ListLemmas.{item_of, item_among, same_item, mapped_at}
+use Rattle.mre_base.proofs.Loops.{All_item}
+use Rattle.mre_base.proofs.Listed.{item_contained}
+use Rattle.bound_cert.proofs.ListLemmas.{same_item, mapped_at}
 
 -- ---- the order of lists
-first_trans : (x y z : ℕ) (a b c : Bool) → (a ≡ true → b ≡ true → c ≡ true) → (if nat_eq x y then a else nat_lt x y) ≡ true → (if nat_eq y z then b else nat_lt y z) ≡ true
-    → (if nat_eq x z then c else nat_lt x z) ≡ true
-first_trans x y z a b c later one two = grind (arith, nat_tests)
-
-pub earlier-trans : (xs ys zs : List ℕ) → is_earlier_list xs ys ≡ true → is_earlier_list ys zs ≡ true → is_earlier_list xs zs ≡ true
-earlier-trans [] [] zs one two = absurd (false≢true one)
-earlier-trans [] (y ∷ ys) [] one two = absurd (false≢true two)
-earlier-trans [] (y ∷ ys) (z ∷ zs) one two = refl
-earlier-trans (x ∷ xs) [] zs one two = absurd (false≢true one)
-earlier-trans (x ∷ xs) (y ∷ ys) [] one two = absurd (false≢true two)
-earlier-trans (x ∷ xs) (y ∷ ys) (z ∷ zs) one two =
-    first_trans x y z (is_earlier_list xs ys) (is_earlier_list ys zs) (is_earlier_list xs zs) (earlier-trans xs ys zs) one two
-
 before-trans : (one two three : BitSet) → is_listed_before one two ≡ true → is_listed_before two three ≡ true → is_listed_before one three ≡ true
-before-trans one two three = earlier-trans (numbers_below one.width one.members) (numbers_below two.width two.members) (numbers_below three.width three.members)
+before-trans one two three = earlier_trans (numbers_below one.width one.members) (numbers_below two.width two.members) (numbers_below three.width three.members)
 
 not_before_itself : (one two : BitSet) → one ≡ two → is_listed_before one two ≡ true → ⊥
 not_before_itself one two e before =
     false≢true (sym (is_earlier_list-itself (numbers_below one.width one.members)) ∙ ap (is_listed_before one) e ∙ before)
 
 -- ---- halving
--- what is before the wanted one at a place is so at each lower place
+-- if the state at a place is before the wanted one, so is each earlier state
 pub before_up_to : (states : List BoundState) (wanted : BitSet) (middle : ℕ) (m : BoundState) → IsAscending states → slice_get states middle ≡ Some m → true ≡ is_listed_before m.state wanted
     → (place : ℕ) (s : BoundState) → slice_get states place ≡ Some s → place < middle + 1 → is_listed_before s.state wanted ≡ true
 before_up_to states wanted middle m ascending at before place s there lt =
@@ -47,7 +36,7 @@ before_up_to states wanted middle m ascending at before place s there lt =
       | inr same ↦ subst (λ t. is_listed_before t.state wanted ≡ true) (same_item states middle place m s at there (omega arith)) (sym before)
     ]
 
--- and what isn't, isn't at each higher place
+-- if it isn't, no later state is
 pub rest_from : (states : List BoundState) (wanted : BitSet) (middle : ℕ) (m : BoundState) → IsAscending states → slice_get states middle ≡ Some m → false ≡ is_listed_before m.state wanted
     → (place : ℕ) (s : BoundState) → slice_get states place ≡ Some s → middle ≤ place → is_listed_before s.state wanted ≡ false
 rest_from states wanted middle m ascending at past place s there le =
@@ -57,11 +46,11 @@ rest_from states wanted middle m ascending at past place s there le =
       | inr same ↦ false≢true (past ∙ subst (λ t. is_listed_before t.state wanted ≡ true) (same_item states place middle s m there at (omega arith)) before)
     ])
 
--- ---- the one place at which the wanted one may be
+-- ---- the only place at which the wanted state may be
 module _ (states : List BoundState) (wanted : BitSet) (place : ℕ) (ascending : IsAscending states)
     (before : (p : ℕ) (s : BoundState) → slice_get states p ≡ Some s → p < place → is_listed_before s.state wanted ≡ true)
     (rest : (p : ℕ) (s : BoundState) → slice_get states p ≡ Some s → place ≤ p → is_listed_before s.state wanted ≡ false) where
-  -- it is there or nowhere
+  -- the wanted state is at that place or isn't listed
   pub only_there : (p : ℕ) (s : BoundState) → slice_get states p ≡ Some s → s.state ≡ wanted → place < length states × (p ≡ place)
   only_there p s there same =
       elim (cases_lt p place) [
@@ -74,7 +63,7 @@ module _ (states : List BoundState) (wanted : BitSet) (place : ℕ) (ascending :
           let inside : p < length states = slice_get_within states p s there in (
             omega arith,
             elim (cases_lt place p) [
-              | inl higher ↦ absurd (beyond (item_there states place (omega arith)) higher)
+              | inl higher ↦ absurd (beyond (item_at states place (omega arith)) higher)
               | inr le ↦ omega arith
             ],
           )
@@ -93,7 +82,7 @@ pub record StandsWithin (states : List BoundState) (state : Numbers) (number : �
   pub within : s.number ≤ number
 
 pub stands : (states : List BoundState) (state : Numbers) (number : ℕ) → IsKnownWithin (IsThere states) state number → StandsWithin states state number
-stands states state number (smaller, (n, (place, lt, at), same, counts), le) = found (item_there states place (omega (arith, length-map states numbered))) where
+stands states state number (smaller, (n, (place, lt, at), same, counts), le) = found (item_at states place (omega (arith, length-map states numbered))) where
   found : (s : BoundState) × (slice_get states place ≡ Some s) → StandsWithin states state number
   found (s, here) =
       let is : numbered s ≡ n = sym (get_or_from_slice_get (map numbered states) place (numbered s) n (mapped_at numbered states place s here)) ∙ at in
@@ -103,17 +92,17 @@ stands states state number (smaller, (n, (place, lt, at), same, counts), le) = f
 pub known_at : (states : List BoundState) (place : ℕ) (s : BoundState) (state : Numbers) (number : ℕ) → slice_get states place ≡ Some s → s.state.members ≡ state → s.number ≤ number
     → IsKnownWithin (IsThere states) state number
 known_at states place s state number here same le =
-    (s.number, (numbered s, item_among (map numbered states) place (numbered s) (mapped_at numbered states place s here), same, refl), le)
+    (s.number, (numbered s, item_contained (map numbered states) place (numbered s) (mapped_at numbered states place s here), same, refl), le)
 
 -- with number 0 or less is with 0
 pub known_zero : (states : List BoundState) (state : Numbers) → IsKnownWithin (IsThere states) state 0 → IsThere states state 0
 known_zero states state known = let none : known.0 ≡ 0 = omega (arith, known.2) in subst (IsThere states state) none known.1
 
--- states of one width with the same members are one
+-- states of the same width with the same members are equal
 pub same_state : (states : List BoundState) (wanted : BitSet) (place : ℕ) (s : BoundState) → All (λ t. t.state.width ≡ wanted.width) states → slice_get states place ≡ Some s
     → s.state.members ≡ wanted.members → s.state ≡ wanted
 same_state states wanted place s wide here same =
-    same_bits s.state.width wanted.width s.state.members wanted.members (item_of (λ t. t.state.width ≡ wanted.width) states place s here wide) same
+    same_bits s.state.width wanted.width s.state.members wanted.members (All_item states place s here (λ t. t.state.width ≡ wanted.width) wide) same
 
 module _ (states : List BoundState) (wanted : BitSet) (place : ℕ) (ascending : IsAscending states)
     (before : (p : ℕ) (s : BoundState) → slice_get states p ≡ Some s → p < place → is_listed_before s.state wanted ≡ true)
@@ -122,7 +111,7 @@ module _ (states : List BoundState) (wanted : BitSet) (place : ℕ) (ascending :
   there : (st : StandsWithin states wanted.members number) → place < length states × (st.place ≡ place)
   there st = only_there states wanted place ascending before rest st.place st.s st.here (same_state states wanted st.place st.s wide st.here st.same)
 
-  -- no state is at the place: the wanted one isn't listed
+  -- no state is at the place, so the wanted one isn't listed
   pub nowhere : length states ≤ place → IsKnownWithin (IsThere states) wanted.members number → ⊥
   nowhere past known = let inside : place < length states = (there (stands states wanted.members number known)).0 in absurd (omega arith)
 
@@ -130,7 +119,7 @@ module _ (states : List BoundState) (wanted : BitSet) (place : ℕ) (ascending :
     is_found : (st : StandsWithin states wanted.members number) → st.s ≡ found
     is_found st = same_item states st.place place st.s found st.here here (there st).1
 
-    -- the wanted one is that at the place
+    -- the wanted state is the one at the place
     pub found_same : IsKnownWithin (IsThere states) wanted.members number → found.state ≡ wanted
     found_same known =
         let st : StandsWithin states wanted.members number = stands states wanted.members number known in

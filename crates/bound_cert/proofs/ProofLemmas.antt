@@ -18,7 +18,7 @@ pruned_far : (task : TaskMeaning) (k : ℕ) (state : Numbers) (number : ℕ) (cu
 pruned_far task k state number cuts pruned list valid =
     far_sum k number (weights cuts) (cost_of task list) pruned.enough (cut_law task state cuts pruned.lawful list valid)
 
--- a state is left in one of the ways of the law of bounds
+-- a state of a bound proof is expanded or far, as the law of bounds asks
 left_shows : (task : TaskMeaning) (k : ℕ) (known : Numbers → ℕ → Type 0) (state : Numbers) (number : ℕ) (how : How) → IsLeft task k known state number how
     → IsExpanded task k known state number ⊎ IsFar task k state number ⊎ ((smaller : ℕ) × known state smaller × (smaller < number))
 left_shows task k known state number hows.Expanded left = inl left

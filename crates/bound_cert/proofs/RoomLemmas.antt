@@ -1,4 +1,4 @@
--- The sets of cuts, and what cuts charge.
+-- The sets of cuts, and the charges of cuts.
 use Rattle.std.proofs.Common.{◌≡◌, ℕ, ◌+◌, ◌≤◌, ◌<◌, Bool, true, false, ◌&&◌, not, cond, nat_lt, List, [], ◌∷◌, ◌++◌, length, take, refl, sym, ap, ◌∙◌, arith, subst, inl, inr, add-one, slice_index, unwrap_or, Some, is_some, slice_get}
 use Rattle.std.proofs.lemmas.Bool.{cases_lt, and_parts, false≢true, false_from_ne_true}
 use Rattle.std.proofs.lemmas.List.{map-append}
@@ -12,9 +12,11 @@ use Rattle.task_kit.specs.Tasks.{Numbers, ActionMeaning, TaskMeaning, set_of, no
 use Rattle.task_kit.specs.Cuts.{CutMeaning, counts, weight_of, weights}
 use Rattle.task_kit.specs.Kept.{all_but, cut_meaning, cuts_meaning}
 use Rattle.task_kit.specs.declared.cut.Cut.{Cut}
+use Rattle.mre_base.proofs.Tests.{and_true}
 use Rattle.task_kit.proofs.CutLemmas.{contains-all_but}
+use Rattle.task_kit.proofs.CutWeights.{weight_of-push, weights-push, not_counted}
 use Rattle.bound_cert.specs.Rooms.{all_below, charge_by, AreCharged}
-use Rattle.bound_cert.proofs.ListLemmas.{take_next}
+use Rattle.mre_base.proofs.Loops.{take_item}
 
 -- ---- sets of atoms
 pub none_below : all_below 0 ≡ set.empty
@@ -25,10 +27,6 @@ pub one_more_below : (n : ℕ) → all_below (n + 1) ≡ set.insert (all_below n
 unfolding set_below
 one_more_below n = rw add-one refl
 
-and_true : (b : Bool) → (b && true) ≡ b
-and_true true = refl
-and_true false = refl
-
 -- the set of a cut is all atoms without those that it lacks
 pub all_but-difference : (bound : ℕ) (lacks : List ℕ) → set.difference (all_below bound) (set_of lacks) ≡ all_but bound lacks
 all_but-difference bound lacks =
@@ -37,50 +35,21 @@ all_but-difference bound lacks =
     ∙ ap (λ b. b && not (set.contains (set_of lacks) k)) (contains-set_below (λ _. true) bound k ∙ and_true (nat_lt k bound))
     ∙ sym (contains-all_but bound lacks k))
 
--- what the code makes is the set of the cut
+-- the set that the code makes is the set of the cut
 pub made_set : (task : TaskMeaning) (lacks listed : List ℕ) (all among : BitSet) → all ≡ as_bits task (all_below task.atoms) → listed ≡ lacks
     → among ≡ record all { members = set.difference all.members (set_of listed) } → among.members ≡ all_but task.atoms lacks
 made_set task lacks listed all among is same made =
     ap (λ b. b.members) made ∙ (λ i. set.difference (is i).members (set_of (same i))) ∙ all_but-difference task.atoms lacks
 
 -- ---- sums of weights
-add_three : (a b c : ℕ) → a + (b + c) ≡ a + b + c
-add_three a b c = omega arith
-
-pub weight_of-append : (test : CutMeaning → Bool) (xs ys : List CutMeaning) → weight_of test (xs ++ ys) ≡ weight_of test xs + weight_of test ys
-weight_of-append test [] ys = omega arith
-weight_of-append test (x ∷ xs) ys = ap (λ n. cond (test x) x.weight 0 + n) (weight_of-append test xs ys) ∙ add_three _ _ _
-
-pub weight_of-push : (test : CutMeaning → Bool) (xs : List CutMeaning) (x : CutMeaning) → weight_of test (xs ++ x ∷ []) ≡ weight_of test xs + cond (test x) x.weight 0
-weight_of-push test xs x = weight_of-append test xs (x ∷ []) ∙ ap (λ n. weight_of test xs + n) (last (cond (test x) x.weight 0)) where
-  last : (n : ℕ) → n + 0 ≡ n
-  last n = omega arith
-
-weights-push : (xs : List CutMeaning) (x : CutMeaning) → weights (xs ++ x ∷ []) ≡ weights xs + x.weight
-weights-push [] x = omega arith
-weights-push (y ∷ xs) x = ap (λ n. y.weight + n) (weights-push xs x) ∙ add_three y.weight (weights xs) x.weight
-
 -- the cuts up to a place, and the cut there
 pub next_cuts : (atoms : ℕ) (cuts : List Cut) (i : ℕ) (cut : Cut) → slice_get cuts i ≡ Some cut → cuts_meaning atoms (take (i + 1) cuts) ≡ cuts_meaning atoms (take i cuts) ++ cut_meaning atoms cut ∷ []
-next_cuts atoms cuts i cut at = ap (cuts_meaning atoms) (take_next cuts i cut at) ∙ map-append (cut_meaning atoms) (take i cuts) (cut ∷ [])
+next_cuts atoms cuts i cut at = ap (cuts_meaning atoms) (take_item cuts i cut at) ∙ map-append (cut_meaning atoms) (take i cuts) (cut ∷ [])
 
 pub next_weights : (atoms : ℕ) (cuts : List Cut) (i : ℕ) (cut : Cut) → slice_get cuts i ≡ Some cut → weights (cuts_meaning atoms (take (i + 1) cuts)) ≡ weights (cuts_meaning atoms (take i cuts)) + cut.weight
 next_weights atoms cuts i cut at = ap weights (next_cuts atoms cuts i cut at) ∙ weights-push (cuts_meaning atoms (take i cuts)) (cut_meaning atoms cut)
 
 -- ---- charges
--- what isn't listed never applies, and no cut counts it
-none_at : (xs : List ActionMeaning) (i : ℕ) → length xs ≤ i → unwrap_or (slice_get xs i) no_action ≡ no_action
-none_at xs i past = ap (λ o. unwrap_or o no_action) (slice_get_past xs i past)
-
-pub never_applies : (task : TaskMeaning) (action : ℕ) (state : Numbers) → length task.actions ≤ action → applies task action state ≡ true → ⊥
-never_applies task action state past does = false≢true (sym (ap (λ a. is_some a.cost) (none_at task.actions action past)) ∙ (and_parts _ _ does).0)
-
-not_counted : (task : TaskMeaning) (action : ℕ) (cuts : List CutMeaning) → length task.actions ≤ action → weight_of (counts task action) cuts ≡ 0
-not_counted task action [] past = refl
-not_counted task action (cut ∷ cuts) past =
-    let never : counts task action cut ≡ false = false_from_ne_true _ (λ yes. never_applies task action cut.among past (and_parts _ _ yes).0) in
-    ap (λ b. cond b cut.weight 0 + weight_of (counts task action) cuts) never ∙ ap (λ n. 0 + n) (not_counted task action cuts past)
-
 module _ (task : TaskMeaning) (before : List CutMeaning) (cut : CutMeaning) (old : List ℕ) (charged : AreCharged task before old) where
   summed : (action : ℕ) → action < length task.actions → slice_index old action + charge_by task cut action ≡ weight_of (counts task action) (before ++ cut ∷ [])
   summed action lt = ap (λ n. n + charge_by task cut action) (charged.noted action lt) ∙ sym (weight_of-push (counts task action) before cut)
@@ -103,7 +72,7 @@ module _ (task : TaskMeaning) (before : List CutMeaning) (cut : CutMeaning) (old
   pub overcharged : (action : ℕ) → action < length task.actions → price task action < slice_index old action + charge_by task cut action → price task action < weight_of (counts task action) (before ++ cut ∷ [])
   overcharged action lt over = subst (λ n. price task action < n) (summed action lt) over
 
-  -- the same with the set that the code made
+  -- the same for the set that the code made
   module _ (among : Numbers) (e : among ≡ cut.among) where
     same_cut : ◌≡◌ {A = CutMeaning} (record { weight = cut.weight; among = among }) cut
     same_cut = λ i. record { weight = cut.weight; among = e i }

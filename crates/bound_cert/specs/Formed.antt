@@ -1,5 +1,5 @@
--- What holds of the states of a bound proof before it is checked: they are of the task's width and
--- in order, and its cuts are in range.
+-- The form of the states of a bound proof, which holds before it is checked: they have the task's
+-- width and are in order, and the cuts are in range.
 use Rattle.std.specs.Prelude.{ℕ, ◌+◌, ◌^◌, ◌≡◌, ◌≤◌, ◌<◌, Bool, true, List, [], length, Some}
 use Rattle.std.specs.Prelude.{slice_get, All}
 use Rattle.mre_base.specs.Before.{is_earlier_list}

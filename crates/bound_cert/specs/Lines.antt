@@ -15,21 +15,21 @@ use Rattle.bound_cert.specs.declared.proof.BoundRule.TheVariants as rules
 use Rattle.bound_cert.specs.declared.proof.BoundFault.{BoundFault}
 use Rattle.bound_cert.specs.Proven.{numbered, IsThere}
 
--- a line: the bound's own, that of an expanded state, that of a pruned state with its cuts, or that
--- of a cut of a state after other cuts
+-- a line: of the bound itself, of an expanded state, of a pruned state with its cuts, or of a cut
+-- of a state after other cuts
 pub data Line : Type 0 where
   Own : Line
   OfExpanded : NumberedState → Line
   OfPruned : NumberedState → List CutMeaning → Line
   OfCut : Numbers → List CutMeaning → CutMeaning → Line
 
--- the lines of a state's cuts, after some cuts of it
+-- the lines of a state's cuts, after some cuts of the state
 abbrev pub cut_lines : Numbers → List CutMeaning → List CutMeaning → List Line
 cut_lines state before [] = []
 cut_lines state before (cut ∷ cuts) =
     OfCut state before cut ∷ cut_lines state (before ++ cut ∷ []) cuts
 
--- the lines of a state, by how it was left
+-- the lines of a state, expanded or pruned
 abbrev pub lines_by : ℕ → NumberedState → How → List Line
 lines_by atoms state hows.Expanded = OfExpanded state ∷ []
 lines_by atoms state (hows.Pruned cuts) =
@@ -82,7 +82,7 @@ rank rules.Sum = 4
 rank rules.Cut = 5
 rank rules.Charge = 6
 
--- the line breaks the rule, and none before it
+-- the line breaks the rule and no rule before it
 pub record BreaksFirst (task : TaskMeaning) (k : ℕ) (states : List BoundState) (line : Line)
     (rule : BoundRule) : Type 0 where
   pub breaks : Breaks task k states rule line
@@ -98,7 +98,7 @@ Keeps task k states (OfCut state before cut) =
     (set.is_subset state cut.among ≡ true) × (set.is_subset task.goal cut.among ≡ false)
     × ((action : ℕ) → weight_of (counts task action) (before ++ cut ∷ []) ≤ price task action)
 
--- the fault is at the first of the lines that breaks a rule, where the lines count from a number on
+-- the fault is at the first of the lines that breaks a rule, counted from a number on
 pub record IsFirstFault (task : TaskMeaning) (k : ℕ) (states : List BoundState) (lines : List Line)
     (from : ℕ) (fault : BoundFault) : Type 0 where
   pub before : List Line

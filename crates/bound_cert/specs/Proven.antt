@@ -1,5 +1,5 @@
--- What a bound proof is: listed states, each with a number, that together show that no valid list
--- of a task costs less than a bound.
+-- Bound proofs: listed states, each with a number, that together show that no valid list of a task
+-- costs less than a bound.
 use Rattle.std.specs.Prelude.{ℕ, ◌+◌, ◌≤◌, ◌<◌, List, map, All}
 use Rattle.task_kit.specs.Tasks.{Numbers, TaskMeaning}
 use Rattle.task_kit.specs.Bounds.{HasNoCheaper, IsExpanded, NumberedState, IsListed}
@@ -17,19 +17,19 @@ numbered s = record { state = s.state.members; number = s.number }
 abbrev pub IsThere : List BoundState → Numbers → ℕ → Type 0
 IsThere states = IsListed (map numbered states)
 
--- the cuts are lawful, and weigh with the state's number at least k
+-- the cuts are lawful, and the sum of their weights and of the state's number is at least k
 pub record IsPruned (task : TaskMeaning) (k : ℕ) (state : Numbers) (number : ℕ)
     (cuts : List CutMeaning) : Type 0 where
   pub lawful : AreLawful task state cuts
   pub enough : k ≤ number + weights cuts
 
--- what is owed of a state, by how it was left
+-- the claim of a state, expanded or pruned
 abbrev pub IsLeft : TaskMeaning → ℕ → (Numbers → ℕ → Type 0) → Numbers → ℕ → How → Type 0
 IsLeft task k known state number hows.Expanded = IsExpanded task k known state number
 IsLeft task k known state number (hows.Pruned cuts) =
     IsPruned task k state number (cuts_meaning task.atoms cuts)
 
--- the start is listed with 0 where k is above 0, each number is below k, and each state is expanded
+-- if k is above 0, the start is listed with 0; each number is below k, and each state is expanded
 -- or pruned
 pub record IsBoundProof (task : TaskMeaning) (k : ℕ) (states : List BoundState) : Type 0 where
   pub start : 0 < k → IsThere states task.start 0

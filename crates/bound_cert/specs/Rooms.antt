@@ -1,4 +1,4 @@
--- The room in which bound proofs of a task are checked.
+-- The working memory in which bound proofs of a task are checked.
 use Rattle.std.specs.Prelude.{ℕ, ◌+◌, ◌≡◌, ◌≤◌, ◌<◌, true, cond, List, length, slice_index}
 use Rattle.mre_base.specs.Sets.{set_below}
 use Rattle.task_kit.specs.Tasks.{Numbers, TaskMeaning, as_bits, price}
@@ -16,11 +16,11 @@ pub record IsScratchOf (task : TaskMeaning) (scratch : Scratch) : Type 0 where
   pub all : scratch.all ≡ as_bits task (all_below task.atoms)
   pub charged : length scratch.charged.items ≡ length task.actions
 
--- what a cut charges an action
+-- the charge of a cut on an action
 abbrev pub charge_by : TaskMeaning → CutMeaning → ℕ → ℕ
 charge_by task cut action = cond (counts task action cut) cut.weight 0
 
--- each action was charged by the cuts what is noted for it, and no more than it costs
+-- the note for each action is the sum of the charges of the cuts on it, and at most its cost
 pub record AreCharged (task : TaskMeaning) (cuts : List CutMeaning)
     (charged : List ℕ) : Type 0 where
   pub noted : (action : ℕ) → action < length task.actions

@@ -1,4 +1,4 @@
-//! What the cuts of a state charge each action.
+//! The charges of the cuts of a state on each action.
 ghost use Rattle.std.specs.Prelude.{ℕ, ◌≡◌, ◌+◌, ◌^◌, ◌≤◌, ◌<◌, false, [], length, slice_index};
 ghost use Rattle.std.specs.Prelude.{IsTrue, IfSome, IfNone};
 ghost use Rattle.task_kit.specs.Cuts.{most};
@@ -8,7 +8,7 @@ ghost use Rattle.bound_cert.specs.Rooms.{charge_by, AreCharged};
 use mre_base::Bits;
 use task_kit::{TaskView, price_of};
 
-// What an action is charged once a cut is added, if that isn't more than it costs.
+// The charge on an action after one more cut, if it isn't more than the action's cost.
 fn charge_one<T: TaskView>(
     task: &T,
     action: u32,
@@ -20,11 +20,14 @@ fn charge_one<T: TaskView>(
     requires width { among.now.width ≡ (T.seen task.now).atoms + 1 }
     requires in_range { weight ≤ most }
     requires within { charged ≤ price (T.seen task.now) action }
-    ensures sum { IfSome result (λ sum. sum ≡ charged
-        + charge_by (T.seen task.now) (record { weight = weight; among = among.now.members }) action) }
+    ensures sum { IfSome result (λ sum. sum ≡ charged + charge_by (T.seen task.now)
+        (record { weight = weight; among = among.now.members }) action) }
     ensures within { IfSome result (λ sum. sum ≤ price (T.seen task.now) action) }
     ensures over { IfNone result (price (T.seen task.now) action < charged
-        + charge_by (T.seen task.now) (record { weight = weight; among = among.now.members }) action) }
+        + charge_by (T.seen task.now) (record {
+          weight = weight;
+          among = among.now.members;
+        }) action) }
 {
     if !task.applies(action, among) {
         return Some(charged);
@@ -40,7 +43,8 @@ fn charge_one<T: TaskView>(
     Some(sum)
 }
 
-/// Charges the actions that a cut counts, and answers whether each is charged at most its cost.
+/// Charges the actions that a cut counts, and answers whether the charge on each is at most its
+/// cost.
 pub fn charge<T: TaskView>(task: &T, weight: u64, among: &Bits, charged: &mut Vec<u64>) -> bool
     requires width { among.now.width ≡ (T.seen task.now).atoms + 1 }
     requires in_range { weight ≤ most }
@@ -49,12 +53,18 @@ pub fn charge<T: TaskView>(task: &T, weight: u64, among: &Bits, charged: &mut Ve
         slice_index charged.old.items action ≤ price (T.seen task.now) action }
     ensures sums { IsTrue result → (action : ℕ) → action < length (T.seen task.now).actions →
         slice_index charged.new.items action ≡ slice_index charged.old.items action
-        + charge_by (T.seen task.now) (record { weight = weight; among = among.now.members }) action }
+        + charge_by (T.seen task.now) (record {
+          weight = weight;
+          among = among.now.members;
+        }) action }
     ensures within { IsTrue result → (action : ℕ) → action < length (T.seen task.now).actions →
         slice_index charged.new.items action ≤ price (T.seen task.now) action }
     ensures over { result ≡ false → (action : ℕ) × (action < length (T.seen task.now).actions)
         × (price (T.seen task.now) action < slice_index charged.old.items action
-        + charge_by (T.seen task.now) (record { weight = weight; among = among.now.members }) action) }
+        + charge_by (T.seen task.now) (record {
+          weight = weight;
+          among = among.now.members;
+        }) action) }
     ensures sized { length charged.new.items ≡ length charged.old.items }
 {
     for action in 0..task.actions() {

@@ -53,7 +53,7 @@ fn fault_of_state<T: TaskView>(
     }
 }
 
-// How many lines a state has.
+// The number of lines of a state.
 fn height(how: &How) -> u32
     requires { length (cuts_of how.now) + 1 < 2 ^ 32 }
     ensures { result ≡ length (cuts_of how.now) + 1 }
@@ -90,7 +90,7 @@ fn fault_of_states<T: TaskView>(
     None
 }
 
-// Whether the start is listed with number 0, where that is asked for.
+// Whether the start is listed with number 0, if the bound asks for that.
 fn has_start<T: TaskView>(task: &T, k: u64, states: &List<BoundState>) -> bool
     requires formed { IsFormed (T.seen task.now) states.now }
     ensures yes { IsTrue result → 0 < k → IsThere states.now (T.seen task.now).start 0 }

@@ -31,7 +31,7 @@ fn make_set(all: &Bits, lacks: &[u32], among: &mut Bits)
     }
 }
 
-// The first rule that the line of a cut breaks, after those before it charged what they charge.
+// The first rule that the line of a cut breaks, after the charges of the cuts before it.
 fn broken_by_cut<T: TaskView>(
     task: &T,
     state: &Bits,
@@ -87,7 +87,8 @@ pub fn fault_in_cuts<T: TaskView>(
         (cut_lines state.now.members [] (cuts_meaning (T.seen task.now).atoms cuts.now))) }
     ensures broken { IfSome result (λ fault. (k : ℕ) (states : List BoundState)
         → IsFirstFault (T.seen task.now) k states
-        (cut_lines state.now.members [] (cuts_meaning (T.seen task.now).atoms cuts.now)) line fault) }
+        (cut_lines state.now.members [] (cuts_meaning (T.seen task.now).atoms cuts.now))
+        line fault) }
     ensures scratch { IsScratchOf (T.seen task.now) scratch.new }
 {
     charge_none(&mut scratch.charged);

@@ -12,7 +12,7 @@ use crate::proof::{BoundRule, BoundState};
 use mre_base::{Bits, List};
 use task_kit::{TaskView, price_of};
 
-// Whether the successor by an action costs too much or is listed, where there is one.
+// Whether the action doesn't apply, or its successor costs too much or is listed.
 fn has_successor<T: TaskView>(
     task: &T,
     k: u64,

@@ -1,4 +1,4 @@
-//! Law: a bound proof shows that no list costs less.
+//! The law of bound proofs, as a function whose contract states it.
 
 ghost use Rattle.bound_cert.specs.Proven.{BoundProofLaw};
 

@@ -1,5 +1,5 @@
-//! Bound proofs: that no valid list of a task costs less than a bound, as listed states that anyone
-//! can check, and their checker.
+//! Bound proofs, which show by listed states that no valid list of a task costs less than a bound,
+//! and their checker.
 #![tactic(auto)]
 
 mod charging;

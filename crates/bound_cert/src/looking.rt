@@ -1,4 +1,4 @@
-//! Looking for a state among those of a bound proof, which ascend.
+//! The search for a state among the ascending states of a bound proof.
 ghost use Rattle.std.specs.Prelude.{ℕ, ◌≡◌, ◌≤◌, ◌<◌, ◌↔◌, true, false, Some, length, slice_get};
 ghost use Rattle.std.specs.Prelude.{All, IsTrue};
 ghost use Rattle.task_kit.specs.Bounds.{IsKnownWithin};

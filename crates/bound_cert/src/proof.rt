@@ -3,18 +3,17 @@
 use mre_base::{Bits, List};
 use task_kit::Cuts;
 
-/// How a state of a bound proof was left.
+/// Why a state of a bound proof needs no further search.
 #[derive(Debug, Drop)]
 pub enum How {
     /// Its successors are in the proof too, unless they cost too much.
     Expanded,
-    /// These cuts show that the goal is too far from it.
+    /// The weights of these cuts show that the goal is too far from it.
     Pruned(Cuts),
 }
 
-/// A state with a number, and how it was left: every list from it to the goal costs so much that it
-/// comes with the number to at least
-/// the bound.
+/// A state with a number, and why it needs no further search: the cost of every list from it to the
+/// goal, added to the number, is at least the bound.
 #[derive(Debug)]
 pub struct BoundState {
     pub number: u64,
@@ -40,10 +39,10 @@ pub struct BoundProof {
     pub states: List<BoundState>,
 }
 
-/// The rules of a bound proof, in the order in which the first broken one of a line is found.
+/// The rules of a bound proof. If a line breaks several, the first in this order is reported.
 #[derive(Clone, Copy, Debug, PartialEq, Eq)]
 pub enum BoundRule {
-    /// Where `k` is above 0, the start is listed with number 0.
+    /// If `k` is above 0, the start is listed with number 0.
     Start,
     /// A state's number is below `k`.
     Below,
@@ -52,17 +51,16 @@ pub enum BoundRule {
     /// Each successor of an expanded state costs at least `k`, or is listed with its cost or a
     /// smaller number.
     Successor,
-    /// The number of a pruned state and the weights of its cuts come to at least `k`.
+    /// The sum of a pruned state's number and the weights of its cuts is at least `k`.
     Sum,
-    /// The set of a cut has the state, and lacks a goal atom.
+    /// The set of a cut includes the state and lacks a goal atom.
     Cut,
-    /// The cuts of a state up to this one charge no action more than it costs.
+    /// The cuts of a state up to this one charge each action at most its cost.
     Charge,
 }
 
 /// The first line of a bound proof that breaks a rule, and the first rule that it breaks. The bound
-/// has line 1, each state a line, and
-/// each cut of a pruned state a line after it.
+/// has line 1; each state has a line, and each cut of a pruned state has a line after it.
 #[derive(Clone, Copy, Debug, PartialEq, Eq)]
 pub struct BoundFault {
     pub line: u32,

@@ -1,4 +1,4 @@
-//! Pruned states: the number and the weights of the cuts come to the bound.
+//! Pruned states: the sum of the number and of the weights of the cuts reaches the bound.
 ghost use Rattle.std.specs.Prelude.{ℕ, ◌≡◌, ◌+◌, ◌≤◌, ◌↔◌, List, IsTrue, IfSome, IfNone};
 ghost use Rattle.task_kit.specs.Cuts.{weights};
 ghost use Rattle.task_kit.specs.Kept.{cuts_meaning};
@@ -10,7 +10,7 @@ ghost use Rattle.bound_cert.specs.Proven.{numbered};
 use crate::proof::{BoundRule, BoundState};
 use task_kit::Cuts;
 
-// Whether a number and the weights come to at least `k`.
+// Whether the sum of a number and of the weights is at least `k`.
 fn is_enough(k: u64, number: u64, cuts: &Cuts) -> bool
     ensures { (atoms : ℕ) → (IsTrue result ↔ (k ≤ number + weights (cuts_meaning atoms cuts.now))) }
 {
@@ -26,7 +26,8 @@ pub fn broken_by_pruned(k: u64, state: &BoundState, cuts: &Cuts) -> Option<Bound
     ensures kept { IfNone result ((task : TaskMeaning) (states : List BoundState) →
         Keeps task k states (OfPruned (numbered state.now) (cuts_meaning task.atoms cuts.now))) }
     ensures broken { IfSome result (λ rule. (task : TaskMeaning) (states : List BoundState) →
-        BreaksFirst task k states (OfPruned (numbered state.now) (cuts_meaning task.atoms cuts.now)) rule) }
+        BreaksFirst task k states (OfPruned (numbered state.now)
+        (cuts_meaning task.atoms cuts.now)) rule) }
 {
     if k <= state.number {
         return Some(BoundRule::Below);

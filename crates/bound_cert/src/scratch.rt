@@ -1,4 +1,4 @@
-//! The room that a check works in.
+//! The working memory of a check.
 
 ghost use Rattle.std.specs.Prelude.{◌≡◌, ◌+◌, ◌^◌, ◌<◌, IfOk};
 ghost use Rattle.bound_cert.specs.Rooms.{all_below, IsScratchOf};
@@ -7,7 +7,7 @@ use mre_base::{Bits, NoMemory};
 use std::alloc::Global;
 use task_kit::TaskView;
 
-/// The room in which the bound proofs of one task are checked.
+/// The working memory in which the bound proofs of one task are checked.
 pub struct Scratch {
     // A successor.
     pub(crate) into: Bits,
@@ -15,7 +15,7 @@ pub struct Scratch {
     pub(crate) among: Bits,
     // Every atom.
     pub(crate) all: Bits,
-    // What the cuts of a state charge each action.
+    // The charge of the cuts of a state on each action.
     pub(crate) charged: Vec<u64>,
 }
 
@@ -47,7 +47,7 @@ impl Scratch {
     }
 }
 
-// The set of all atoms, with a place for one number more.
+// The set of all atoms, with room for one number more.
 fn every_atom(alloc: Global, atoms: u32) -> Result<Bits, NoMemory>
     requires { atoms + 1 < 2 ^ 32 }
     ensures { IfOk result (λ all. all ≡ record { width = atoms + 1; members = all_below atoms }) }

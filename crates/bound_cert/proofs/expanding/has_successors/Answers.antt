@@ -1,6 +1,6 @@
 use Rattle.std.proofs.Common.{◌∙◌, arith, inl, inr, below_more}
 use Rattle.std.proofs.lemmas.Bool.{cases_lt}
-use Rattle.bound_cert.proofs.RoomLemmas.{never_applies}
+use Rattle.task_kit.proofs.CutWeights.{never_applies}
 use Rattle.bound_cert.proofs.expanding.has_successors.Goals as goal
 
 pub loop-action-preserved : goal.loop-action-preserved

@@ -1,6 +1,6 @@
 use Rattle.std.proofs.Common.{◌≡◌, sym, ap, ◌∙◌, arith}
 use Rattle.std.proofs.lemmas.Bool.{true≢false, false≢true, leb-true, le-leb}
-use Rattle.bound_cert.proofs.ListLemmas.{item_of}
+use Rattle.mre_base.proofs.Loops.{All_item}
 use Rattle.bound_cert.proofs.LookLemmas.{nowhere, found_same, within_found, known_at}
 use Rattle.bound_cert.proofs.looking.is_within.Goals as goal
 
@@ -11,7 +11,7 @@ returns-then-len-place c = (
 )
 
 pub same-requires : goal.same-requires
-same-requires c = item_of (λ s. s.state.width ≡ c.args.wanted.now.width) c.args.states.now c.place_for-place.result c.item-found.result.now c.item-found.ensures c.requires.wide
+same-requires c = All_item c.args.states.now c.place_for-place.result c.item-found.result.now c.item-found.ensures (λ s. s.state.width ≡ c.args.wanted.now.width) c.requires.wide
 
 pub returns-then-same : goal.returns-then-same
 returns-then-same c = (
