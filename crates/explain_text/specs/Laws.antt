@@ -26,8 +26,8 @@ text_in lines = flat_map (λ line. line) lines
 abbrev pub ListLaw : List Difference → Type 0
 ListLaw differences =
     (task : Task) → AreOf task differences → (head chosen : List ℕ) →
-    text_in (list_lines head task.words differences chosen) ≡ line head
-    ++ flat_map (difference_line task) chosen
+    text_in (list_lines head task.words differences chosen)
+    ≡ line head ++ flat_map (difference_line task) chosen
 
 -- for each task with these differences, the lines are the text for the differences with these
 -- numbers and the cost

@@ -14,16 +14,6 @@ use Rattle.std.proofs.lemmas.Option.{slice_get-get_or}
 use Rattle.mre_base.proofs.Loops.{contains_cases, contains_here, contains_later}
 use Rattle.mre_base.proofs.Listed.{item_contained}
 
--- what is known of each item of a list is known of all items
-pub each_known : {X : Type 0} (P : X → Type 0) → ((x : X) → P x ⊎ ¬ P x) → (xs : List X) → ((x : X) → Contains xs x → P x) ⊎ ¬ ((x : X) → Contains xs x → P x)
-each_known P known [] = inl (λ x at. absurd (omega (arith, at.1)))
-each_known P known (x ∷ xs) = by (known x) (each_known P known xs)
-  where
-    by : P x ⊎ ¬ P x → ((y : _) → Contains xs y → P y) ⊎ ¬ ((y : _) → Contains xs y → P y) → ((y : _) → Contains (x ∷ xs) y → P y) ⊎ ¬ ((y : _) → Contains (x ∷ xs) y → P y)
-    by (inl here) (inl later) = inl (λ y at. ⊎_elim (λ is. subst P is here) (λ there. later y there) (contains_cases x xs y at))
-    by (inl here) (inr none) = inr (λ each. none (λ y at. each y (contains_later x xs y at)))
-    by (inr none) rest = inr (λ each. none (each x (contains_here x xs)))
-
 module _ {X : Type 0} (R : X → X → Type 0) (trans : (x y z : X) → R x y → R y z → R x z) where
   -- each item comes before the later ones
   abbrev pub Ascend : List X → Type 0

@@ -70,8 +70,8 @@ pub record AreJoined (request : Request) (planner_read user_read : Model) (plan 
   pub user : Model
   pub paired : ArePaired planner_read user_read planner.words planner user
   pub rest : ((status ≡ 7) × IsLarge planner.words)
-      ⊎ (AreSmall planner.words × AreDiffering request planner_read.words user_read.words planner
-      user plan status)
+      ⊎ (AreSmall planner.words
+      × AreDiffering request planner_read.words user_read.words planner user plan status)
 
 -- texts of two models and of a plan: the models don't agree, or they are joined
 pub record AreRead (request : Request) (contents : List (List ℕ)) (status : ℕ) : Type 0 where
