@@ -8,18 +8,15 @@ use Rattle.std.specs.FinSet.{contains-empty, from_list_push, nat_cmp-IsAntisymme
 use Rattle.std.proofs.lemmas.Bool.{or_cases, or_left, or_right, eq-eqb, eqb-true, false≢true}
 use Rattle.std.proofs.lemmas.List.{map-append}
 use Rattle.std.proofs.lemmas.List.Elements.{filter-append, All-filter, All-map}
+use Rattle.std.proofs.lemmas.List.{append-nil}
 use Rattle.mre_base.proofs.Loops.{take_item, contains_cases, contains_here, contains_later}
-use Rattle.mre_base.proofs.SetsBelow.{contains-insert_nat}
+use Rattle.mre_base.proofs.SetsBelow.{has_inserted, has_before, insert_cases}
 use Rattle.task_kit.specs.Tasks.{Numbers, set_of}
 use Rattle.case_kit.specs.declared.cases.When.{When}
 use Rattle.case_kit.specs.declared.cases.Case.{Case}
 use Rattle.case_kit.specs.Evaluated.{atoms_where}
 
 -- ---- one more case
-none_more : (xs : List ℕ) → xs ++ [] ≡ xs
-none_more [] = refl
-none_more (x ∷ xs) = ap (λ zs. x ∷ zs) (none_more xs)
-
 pub where_pushed : (test : When → Bool) (cases : List Case) (case : Case) →
     atoms_where test (cases ++ case ∷ []) ≡ cond (test case.when) (atoms_where test cases ++ case.atom ∷ []) (atoms_where test cases)
 where_pushed test cases case =
@@ -27,7 +24,7 @@ where_pushed test cases case =
   where
     by : (b : Bool) → atoms_where test cases ++ map (λ (c : Case). c.atom) (cond b (case ∷ []) []) ≡ cond b (atoms_where test cases ++ case.atom ∷ []) (atoms_where test cases)
     by true = refl
-    by false = none_more (atoms_where test cases)
+    by false = append-nil (atoms_where test cases)
 
 pub where_next : (test : When → Bool) (cases : List Case) (i : ℕ) (case : Case) (b : Bool) → slice_get cases i ≡ Some case → test case.when ≡ b →
     atoms_where test (take (i + 1) cases) ≡ cond b (atoms_where test (take i cases) ++ case.atom ∷ []) (atoms_where test (take i cases))
@@ -36,15 +33,6 @@ where_next test cases i case b at e =
     ∙ ap (λ c. cond c (atoms_where test (take i cases) ++ case.atom ∷ []) (atoms_where test (take i cases))) e
 
 -- ---- the atoms as a set
-has_inserted : (s : Numbers) (p : ℕ) → set.contains (set.insert s p) p ≡ true
-has_inserted s p = contains-insert_nat s p p ∙ or_left _ _ (eq-eqb p p refl)
-
-has_before : (s : Numbers) (p k : ℕ) → set.contains s k ≡ true → set.contains (set.insert s p) k ≡ true
-has_before s p k there = contains-insert_nat s p k ∙ or_right _ _ there
-
-insert_cases : (s : Numbers) (p k : ℕ) → set.contains (set.insert s p) k ≡ true → (k ≡ p) ⊎ (set.contains s k ≡ true)
-insert_cases s p k there = elim (or_cases _ _ (sym (contains-insert_nat s p k) ∙ there)) [ inl e ↦ inl (eqb-true k p e) | inr h ↦ inr h ]
-
 -- a case of the list passes the test and has the atom
 abbrev pub IsTaken : (When → Bool) → List Case → ℕ → Type 0
 IsTaken test cases k = (case : Case) × Contains cases case × (test case.when ≡ true) × (case.atom ≡ k)
@@ -80,7 +68,7 @@ where_has test (first ∷ cases) case among on = by (test first.when) refl (wher
         | inr later ↦ rest later on
       ]
 
--- the set with one case more
+-- the set with one more case
 pub set_next : (test : When → Bool) (cases : List Case) (i : ℕ) (case : Case) (b : Bool) → slice_get cases i ≡ Some case → test case.when ≡ b →
     set_of (atoms_where test (take (i + 1) cases)) ≡ cond b (set.insert (set_of (atoms_where test (take i cases))) case.atom) (set_of (atoms_where test (take i cases)))
 set_next test cases i case b at e = ap set_of (where_next test cases i case b at e) ∙ by b where
@@ -89,7 +77,7 @@ set_next test cases i case b at e = ap set_of (where_next test cases i case b at
   by true = from_list_push nat_cmp_total nat_cmp-IsAntisymmetric (atoms_where test (take i cases)) case.atom
   by false = refl
 
--- each atom that is taken is below a bound
+-- each taken atom is below a bound
 pub where_below : (bound : ℕ) (test : When → Bool) (cases : List Case) → All (λ case. case.atom < bound) cases → All (λ x. x < bound) (atoms_where test cases)
 where_below bound test cases below =
     All-map (λ x. x < bound) (λ (c : Case). c.atom) (filter (λ c. test c.when) cases) (All-filter (λ c. test c.when) (λ c. c.atom < bound) cases below)

@@ -33,17 +33,11 @@ none_passes : {X : Type 0} (p : X → Bool) (xs : List X) → list_any p xs ≡ 
 none_passes p [] none = All-nil (λ x. p x ≡ false)
 none_passes p (x ∷ xs) none = let parts = or_false _ _ none in All-cons (λ x. p x ≡ false) x xs parts.0 (none_passes p xs parts.1)
 
--- a walk over the cases: one that passes, and one more that doesn't
+-- a case that passes
 pub one_passes : {X : Type 0} (p : X → Bool) (xs : List X) (i : ℕ) (x : X) → slice_get xs i ≡ Some x → p x ≡ true → true ≡ list_any p xs
 one_passes p [] i x at on = let none : None ≡ Some x = sym (slice_get_past [] i (omega arith)) ∙ at in absurd (cc)
 one_passes p (y ∷ ys) zero x at on = let same : y ≡ x = cc in sym (or_left (p y) (list_any p ys) (ap p same ∙ on))
 one_passes p (y ∷ ys) (suc i) x at on = sym (or_right (p y) (list_any p ys) (sym (one_passes p ys i x at on)))
-
-pub none_more : {X : Type 0} (p : X → Bool) (xs : List X) (i : ℕ) (x : X) → slice_get xs i ≡ Some x → p x ≡ false → list_any p (take i xs) ≡ false → list_any p (take (i + 1) xs) ≡ false
-none_more p xs i x at off before = ap (list_any p) (take_item xs i x at) ∙ none_pushed p (take i xs) x before off where
-  none_pushed : {X : Type 0} (p : X → Bool) (xs : List X) (x : X) → list_any p xs ≡ false → p x ≡ false → list_any p (xs ++ x ∷ []) ≡ false
-  none_pushed p [] x none off = (λ j. off j || false)
-  none_pushed p (y ∷ ys) x none off = let parts = or_false _ _ none in (λ j. parts.0 j || none_pushed p ys x parts.1 off j)
 
 module _ (cube : CubeMeaning) (place : ℕ) where
   other : (s : Told) (k : ℕ) → nat_eq k place ≡ false → set.contains (set.insert s place) k ≡ set.contains s k

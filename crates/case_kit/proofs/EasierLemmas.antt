@@ -1,4 +1,6 @@
--- Tasks that are easier than others: what is valid in one is valid in the other, at no greater cost. A member is between the two tasks of its cube, and those of an inner cube are between those of an outer one.
+-- Tasks that are easier than others: a list that is valid in one is valid in the other, at no
+-- greater cost. A member is between the two tasks of its cube, and those of an inner cube are
+-- between those of an outer one.
 use Rattle.std.proofs.Common.{◌≡◌, ℕ, ◌≤◌, Bool, true, false, ◌&&◌, ◌||◌, not, cond, is_some, List, [], ◌∷◌, Option, None, Some, unwrap_or, refl, sym, ◌∙◌, arith, subst, inl, inr}
 use Rattle.std.specs.Prelude.{slice_get}
 use Rattle.std.specs.FinSet as set
@@ -34,7 +36,8 @@ use Rattle.case_kit.proofs.RelaxedLemmas.{action_there, action_nowhere}
 abbrev IsPart : Numbers → Numbers → Type 0
 IsPart s t = (k : ℕ) → set.contains s k ≡ true → set.contains t k ≡ true
 
--- the second action needs and deletes no more, adds no less, and costs no more
+-- the second action has no other preconditions or deletes, all the adds of the first, and no
+-- greater cost
 pub record IsEasierAction (a b : ActionMeaning) : Type 0 where
   pub pre : IsPart b.pre a.pre
   pub add : IsPart a.add b.add
@@ -130,7 +133,7 @@ module _ (inner outer : CubeMeaning) (live : is_member inner inner.told ≡ true
   must_inner (IfTold place) must = told_in place must
   must_inner (IfLeft place) must = left_in place must
 
-  -- what is decided later lies within the bound
+  -- a number decided later is within the bound
   later_bound : (way : Way) (told left told' left' : Bool) (x y : Option ℕ) → (told ≡ true → told' ≡ true) → (left ≡ true → left' ≡ true) → (left' ≡ true → told' ≡ false)
       → Bounds way (decided way told left x y) (decided way told' left' x y)
   later_bound way true left true left' x y h l apart = bounds-itself way x

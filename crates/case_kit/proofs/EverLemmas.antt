@@ -1,4 +1,4 @@
--- An action has a cost after some set of differences exactly where there is a number in its cost.
+-- An action has a cost after some set of differences exactly if its cost has a number.
 use Rattle.std.proofs.Common.{◌≡◌, ℕ, true, ◌||◌, not, cond, is_some, [], Option, None, Some, refl, sym, ap, ◌∙◌}
 use Rattle.std.specs.Prelude.{IsSome}
 use Rattle.std.specs.Ordering.{nat_cmp}
@@ -22,7 +22,7 @@ use Rattle.case_kit.specs.Evaluated.{may_hold, least_of, value_by, cost_by, know
 use Rattle.case_kit.proofs.PriceLemmas.{known_bound, known_some}
 use Rattle.case_kit.proofs.EasierLemmas.{cheaper}
 
--- the cube that decides nothing: every set is a member
+-- the cube that decides nothing, of which every set is a member
 abbrev free : CubeMeaning
 free = record { told = set.empty; left = set.empty; undecided = set.empty }
 
@@ -51,7 +51,7 @@ known_free (IfTold place) = ap not (contains-empty nat_cmp place)
 known_free (IfLeft place) = ap not (contains-empty nat_cmp place)
 
 module _ (cost : CaseCost) (known : When) (apart : is_apart cost ≡ true) (beside : is_beside cost known ≡ true) where
-  -- an action of which nothing but this matters
+  -- an action whose other parts don't matter
   bare : CaseAction
   bare = record { pre = []; add = []; del = []; cost = cost; known = known }
 

@@ -1,4 +1,5 @@
--- Members of a cube: a condition holds in every member where it must hold, in some where it may hold; and a member with one number told or left.
+-- Members of a cube: a condition that must hold holds in every member, and a condition that may
+-- hold holds in some member; and a member with one number told or left.
 use Rattle.std.proofs.Common.{◌≡◌, ℕ, Bool, true, false, ◌&&◌, ◌||◌, not, nat_eq, List, [], ◌∷◌, cond, refl, sym, ap, ◌∙◌, arith, subst, ◌⊎◌, inl, inr}
 use Rattle.std.specs.FinSet as set
 use Rattle.std.proofs.lemmas.Bool.{or_cases, or_left, or_right, eq-eqb, eqb-true, false≢true, not-true, not-false, not_from_true, not_from_false, false_from_ne_true}
@@ -13,7 +14,7 @@ use Rattle.case_kit.specs.Members.{holds}
 use Rattle.case_kit.specs.Evaluated.{may_hold, must_hold}
 use Rattle.mre_base.proofs.Loops.{contains_cases, contains_here, contains_later}
 
--- ---- a member that has a number or lacks it, and is else another member
+-- ---- a member with one number put in or taken out
 pub record IsMoved (cube : CubeMeaning) (from : Told) (place : ℕ) (has : Bool) (to : Told) : Type 0 where
   pub member : is_member cube to ≡ true
   pub at : set.contains to place ≡ has
@@ -72,7 +73,7 @@ holds_may cube s Always member on = refl
 holds_may cube s (IfTold place) member on = not_from_false _ (false_from_ne_true _ (λ left. false≢true (sym (member_lacks cube s member place left) ∙ on)))
 holds_may cube s (IfLeft place) member on = not_from_false _ (false_from_ne_true _ (λ told. false≢true (sym (not-true _ on) ∙ member_has cube s member place told)))
 
--- some member in which the condition is so
+-- some member in which the condition holds or fails, as asked
 abbrev pub IsSomewhere : CubeMeaning → When → Bool → Type 0
 IsSomewhere cube when on = (s : Told) × (is_member cube s ≡ true) × (holds s when ≡ on)
 
@@ -86,7 +87,8 @@ must_not_somewhere cube s Always member not_must = absurd (false≢true (sym not
 must_not_somewhere cube s (IfTold place) member not_must = let m = move_out cube s place member not_must in (set.remove s place, m.member, m.at)
 must_not_somewhere cube s (IfLeft place) member not_must = let m = move_in cube s place member not_must in (set.insert s place, m.member, not_from_true _ m.at)
 
--- ---- the member in which no case holds but those that must: it has each number that the cube doesn't leave and that a case wants to be left
+-- ---- the member in which only the cases hold that must: it has each number that the cube doesn't
+-- leave and that a case wants to be left
 abbrev with_left : CubeMeaning → When → Told → Told
 with_left cube Always s = s
 with_left cube (IfTold place) s = s
@@ -102,7 +104,8 @@ among_here case cases when e = (case, contains_here case cases, e)
 among_later : (case : Case) (cases : List Case) (when : When) → StandsAmong cases when → StandsAmong (case ∷ cases) when
 among_later case cases when (c, among, e) = (c, contains_later case cases c among, e)
 
--- why a number is in it: it is told, or a case wants it left and the cube doesn't leave it
+-- a number is in this member because it is told, or because a case wants it left and the cube
+-- doesn't leave it
 abbrev HasReason : CubeMeaning → List Case → ℕ → Type 0
 HasReason cube cases k = (set.contains cube.told k ≡ true) ⊎ (StandsAmong cases (IfLeft k) × (set.contains cube.left k ≡ false))
 
@@ -150,7 +153,7 @@ worst_wanted cube (first ∷ cases) k (case, among, e) not_left =
       | inr later ↦ with_more cube first.when (worst cube cases) k (worst_wanted cube cases k (case, later, e) not_left)
     ]
 
--- no number is in the cases both as one to be told and as one to be left
+-- no number is in the cases both as a told one and as a left one
 abbrev pub IsOneWay : List Case → Type 0
 IsOneWay cases = (place : ℕ) → StandsAmong cases (IfTold place) → StandsAmong cases (IfLeft place) → ⊥
 

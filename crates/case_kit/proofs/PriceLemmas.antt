@@ -21,7 +21,8 @@ use Rattle.case_kit.specs.Evaluated.{must_hold, counts, best_of, value_by, cost_
 use Rattle.case_kit.proofs.BestLemmas.{Bounds, bounds-itself, bounds-trans, best_first, best_second, best_picks}
 use Rattle.case_kit.proofs.MemberLemmas.{IsMoved, move_in, move_out, must_holds, holds_may, IsSomewhere, may_somewhere, must_not_somewhere}
 
--- ---- what a place decides: the first if the cube has it told, the second if it has it left, else the better of the two
+-- ---- the decision at a place: the first value if the cube has it told, the second if it has it
+-- left, and the better of the two if it is open
 abbrev pub decided : Way → Bool → Bool → Option ℕ → Option ℕ → Option ℕ
 decided way told left x y = cond told x (cond left y (best_of way x y))
 
@@ -33,7 +34,7 @@ decided_bound way false true false x y h l = bounds-itself way y
 decided_bound way false false true x y h l = best_first way x y
 decided_bound way false false false x y h l = best_second way x y
 
--- a member that has the place or lacks it, where what it takes is what the place decides
+-- a member that has the place or lacks it, and whose value is the decided one
 pub record IsChosen (way : Way) (cube : CubeMeaning) (from : Told) (place : ℕ) (x y : Option ℕ) (has : Bool) (to : Told) : Type 0 where
   pub moved : IsMoved cube from place has to
   pub is : decided way (set.contains cube.told place) (set.contains cube.left place) x y ≡ cond has x y
@@ -56,7 +57,7 @@ choose way cube from place x y member = by (set.contains cube.told place) (set.c
       ]
 
 -- ---- values
--- another member, which differs at most at the numbers there
+-- another member, which differs at most at these numbers
 pub record IsAdapted (cube : CubeMeaning) (from : Told) (stands : ℕ → Bool) (to : Told) : Type 0 where
   pub member : is_member cube to ≡ true
   pub others : (k : ℕ) → stands k ≡ false → set.contains to k ≡ set.contains from k
@@ -118,13 +119,13 @@ cost_some way cube from (costs.Two place told left) apart member = by (choose wa
       )
 
 -- ---- an action that may be unknown
--- a condition whose number isn't changed stays as it was
+-- a condition whose number isn't changed keeps its answer
 known_kept : (cost : CaseCost) (cube : CubeMeaning) (from to : Told) (when : When) → is_beside cost when ≡ true → IsAdapted cube from (stands_in_cost cost) to → holds to when ≡ holds from when
 known_kept cost cube from to Always beside adapted = refl
 known_kept cost cube from to (IfTold place) beside adapted = adapted.others place (not-true _ beside)
 known_kept cost cube from to (IfLeft place) beside adapted = ap not (adapted.others place (not-true _ beside))
 
--- where the condition counts, it holds in some member, and where it doesn't, it fails in some
+-- a condition that counts holds in some member, and one that doesn't fails in some member
 counts_somewhere : (way : Way) (cube : CubeMeaning) (from : Told) (when : When) (b : Bool) → is_member cube from ≡ true → counts way cube when ≡ b → IsSomewhere cube when b
 counts_somewhere Permissive cube from when true member e = may_somewhere cube from when member e
 counts_somewhere Permissive cube from when false member e = (from, member, false_from_ne_true _ (λ on. false≢true (sym e ∙ holds_may cube from when member on)))

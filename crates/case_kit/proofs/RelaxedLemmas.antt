@@ -1,4 +1,5 @@
--- The tasks that are made case by case are the permissive and the restrictive task of a cube, and there are no others.
+-- The tasks that are made case by case are exactly the permissive and the restrictive task of a
+-- cube.
 use Rattle.std.proofs.Common.{◌≡◌, ℕ, suc, Bool, true, false, List, [], ◌∷◌, length, Option, None, Some, unwrap_or, refl, sym, ap, ◌∙◌, arith, subst}
 use Rattle.std.specs.Prelude.{slice_get}
 use Rattle.std.specs.Option.{option_map}
@@ -8,6 +9,8 @@ use Rattle.std.specs.FinSet.{contains-empty}
 use Rattle.std.proofs.lemmas.Bool.{false≢true}
 use Rattle.std.proofs.lemmas.List.{length-map}
 use Rattle.std.proofs.lemmas.Option.{slice_get-map}
+use Rattle.mre_base.proofs.Listed.{item_contained}
+use Rattle.mre_base.proofs.Tests.{same_test}
 use Rattle.mre_base.specs.SameSets.{same_members}
 use Rattle.cube_kit.specs.Cubes.{Told, CubeMeaning, is_member}
 use Rattle.task_kit.specs.Tasks.{Numbers, ActionMeaning, TaskMeaning, no_action, action_at}
@@ -22,7 +25,7 @@ use Rattle.case_kit.specs.Laws.{RelaxedLaw}
 use Rattle.case_kit.proofs.BestLemmas.{no_dearer-both}
 use Rattle.case_kit.proofs.TakenLemmas.{taken_of_some, taken_of_every}
 use Rattle.case_kit.proofs.PriceLemmas.{least_cost, greatest_cost}
-use Rattle.case_kit.proofs.SoundLemmas.{item_among, action_sound, start_one_way, goal_one_way, pre_one_way, add_one_way, del_one_way}
+use Rattle.case_kit.proofs.SoundLemmas.{action_sound, start_one_way, goal_one_way, pre_one_way, add_one_way, del_one_way}
 
 -- ---- the action with a number
 module _ (helps hinders : When → Bool) (cost : CaseAction → Option ℕ) (table : CaseTable) (i : ℕ) where
@@ -32,7 +35,7 @@ module _ (helps hinders : When → Bool) (cost : CaseAction → Option ℕ) (tab
   pub action_nowhere : slice_get table.actions i ≡ None → action_at (task_where helps hinders cost table) i ≡ no_action
   action_nowhere at = ap (λ o. unwrap_or o no_action) (slice_get-map (action_where helps hinders cost) table.actions i ∙ ap (option_map (action_where helps hinders cost)) at)
 
--- ---- nothing, in each member
+-- ---- a part that is absent in each member
 module _ (cube : CubeMeaning) (live : is_member cube cube.told ≡ true) where
   empty_some : AreOfSome cube (λ told. set.empty) set.empty
   empty_some k = (λ there. absurd (false≢true (sym (contains-empty nat_cmp k) ∙ there)), λ some. some.2)
@@ -58,7 +61,7 @@ module _ (table : CaseTable) (cube : CubeMeaning) (live : is_member cube cube.to
       → IsPermissiveAction cube (λ told. action_where (holds told) (holds told) (known_cost_after told) a) (action_where (may_hold cube) (must_hold cube) (known_cost_by Permissive cube) a)
   one_permissive i a at =
       let sound = action_sound table i a at in
-      let among = item_among table.actions i a at in
+      let among = item_contained table.actions i a at in
       record {
         pre = taken_of_every cube a.pre live (pre_one_way table a among);
         add = taken_of_some cube a.add live;
@@ -70,7 +73,7 @@ module _ (table : CaseTable) (cube : CubeMeaning) (live : is_member cube cube.to
       → IsRestrictiveAction cube (λ told. action_where (holds told) (holds told) (known_cost_after told) a) (action_where (must_hold cube) (may_hold cube) (known_cost_by Restrictive cube) a)
   one_restrictive i a at =
       let sound = action_sound table i a at in
-      let among = item_among table.actions i a at in
+      let among = item_contained table.actions i a at in
       record {
         pre = taken_of_some cube a.pre live;
         add = taken_of_every cube a.add live (add_one_way table a among);
@@ -122,13 +125,7 @@ module _ (table : CaseTable) (cube : CubeMeaning) (live : is_member cube cube.to
         each = each_restrictive;
       }
 
--- ---- there are no others
-same_test : (a b : Bool) → (a ≡ true → b ≡ true) → (b ≡ true → a ≡ true) → a ≡ b
-same_test true true there back = refl
-same_test true false there back = sym (there refl)
-same_test false true there back = back refl
-same_test false false there back = refl
-
+-- ---- the tasks are unique
 module _ (cube : CubeMeaning) where
   one_some : (of_member : Told → Numbers) (s t : Numbers) → AreOfSome cube of_member s → AreOfSome cube of_member t → s ≡ t
   one_some of_member s t a b = same_members s t (λ k. same_test _ _ (λ h. (b k).1 ((a k).0 h)) (λ h. (a k).1 ((b k).0 h)))
@@ -160,7 +157,7 @@ module _ (cube : CubeMeaning) where
       let cost : x.cost ≡ y.cost = one_greatest (λ told. (of_member told).cost) x.cost y.cost a.cost b.cost in
       λ i. record { pre = pre i; add = add i; del = del i; cost = cost i }
 
--- lists as long as each other with the same item at each place
+-- lists of the same length with the same item at each place
 same_list : {X : Type 0} (d : X) (xs ys : List X) → length xs ≡ length ys → ((i : ℕ) → unwrap_or (slice_get xs i) d ≡ unwrap_or (slice_get ys i) d) → xs ≡ ys
 same_list d [] [] long same = refl
 same_list d [] (y ∷ ys) long same = absurd (omega arith)

@@ -1,10 +1,11 @@
--- What the facts of a table say of its parts.
+-- The facts of a table, for each of its parts.
 use Rattle.std.proofs.Common.{◌≡◌, ℕ, ◌≤◌, ◌<◌, true, List, get_or, Some, All, arith, subst, inl, inr}
 use Rattle.std.specs.Prelude.{Contains, slice_get}
 use Rattle.std.proofs.lemmas.Bool.{and_parts, and_from}
 use Rattle.std.proofs.lemmas.Bool.Decides.{nat_tests}
 use Rattle.std.proofs.lemmas.Option.{slice_get_within, get_or_from_slice_get}
 use Rattle.std.proofs.lemmas.List.Elements.{Contains-get_or}
+use Rattle.mre_base.proofs.Loops.{All_item}
 use Rattle.cube_kit.specs.Cubes.{is_listed}
 use Rattle.case_kit.specs.declared.cases.When.{When}
 use Rattle.case_kit.specs.declared.cases.When.TheVariants.{Always, IfTold, IfLeft}
@@ -37,26 +38,16 @@ cost_listed d (costs.Two place told left) few h =
     let both = and_parts _ _ all.1 in
     and_from _ _ (more_listed d place few all.0) (and_from _ _ (value_listed d told few both.0) (value_listed d left few both.1))
 
-pub cases_listed : (d bound : ℕ) (cases : List Case) → d ≤ 256 → All (IsCase d bound) cases → All (λ case. is_listed_in 256 case.when ≡ true) cases
-cases_listed d bound cases few each k c lt = when_listed d (get_or cases k c).when few (each k c lt).listed
-
 pub cases_below : (d bound most : ℕ) (cases : List Case) → bound ≤ most → All (IsCase d bound) cases → All (λ case. case.atom < most) cases
 cases_below d bound most cases le each k c lt = less (each k c lt).below where
   less : {x : ℕ} → x < bound → x < most
   less below = omega arith
 
--- the item at a place
-pub item_of : {X : Type 0} (P : X → Type 0) (xs : List X) (i : ℕ) (x : X) → slice_get xs i ≡ Some x → All P xs → P x
-item_of P xs i x at each = subst P (get_or_from_slice_get xs i x x at) (each i x (slice_get_within xs i x at))
-
-pub item_among : {X : Type 0} (xs : List X) (i : ℕ) (x : X) → slice_get xs i ≡ Some x → Contains xs x
-item_among xs i x at = subst (Contains xs) (get_or_from_slice_get xs i x x at) (Contains-get_or xs i x (slice_get_within xs i x at))
-
 module _ (table : CaseTable) where
   pub action_sound : (i : ℕ) (action : CaseAction) → slice_get table.actions i ≡ Some action → IsCaseAction table.d table.atoms action
-  action_sound i action at = item_of (IsCaseAction table.d table.atoms) table.actions i action at table.sound.each
+  action_sound i action at = All_item table.actions i action at (IsCaseAction table.d table.atoms) table.sound.each
 
-  -- no number is both ways in a part of the table
+  -- no number is in a part of the table both as a told one and as a left one
   pub start_one_way : IsOneWay table.start
   start_one_way place told left = table.sound.one_way place (inl told) (inl left)
 

@@ -26,7 +26,7 @@ plus_no_dearer None y (Some m') (Some n') a b = absurd a
 plus_no_dearer (Some m) None (Some m') (Some n') a b = absurd b
 plus_no_dearer (Some m) (Some n) (Some m') (Some n') a b = omega arith
 
--- what is easier costs no more, whether or not the list is valid
+-- an easier list costs no more, whether or not it is valid
 easier_sum : (t u : TaskMeaning) → IsEasier t u → (list : List ℕ) → IsNoDearer (sum_of u list) (sum_of t list)
 easier_sum t u easier [] = omega arith
 easier_sum t u easier (action ∷ list) = plus_no_dearer (cost_at u action) (sum_of u list) (cost_at t action) (sum_of t list) (easier.each action).cost (easier_sum t u easier list)

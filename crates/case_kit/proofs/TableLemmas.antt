@@ -1,4 +1,5 @@
--- Tasks of a table that agree on what the table has, and the tasks of cubes that have decided every difference.
+-- Tasks of a table by tests that agree on the table's conditions, and the tasks of cubes that have
+-- decided every difference.
 use Rattle.std.proofs.Common.{◌≡◌, ℕ, suc, ◌+◌, Bool, true, false, ◌&&◌, not, cond, List, [], ◌∷◌, map, filter, Option, None, All, refl, sym, ap, ◌∙◌, arith}
 use Rattle.std.specs.FinSet as set
 use Rattle.std.specs.FinSet.{contains-difference, contains-empty}
@@ -39,7 +40,7 @@ map_agree P f g (x ∷ xs) each same =
     let rest : map f xs ≡ map g xs = map_agree P f g xs (rest_of_all P x xs each) same in
     λ i. here i ∷ rest i
 
--- tests that agree on what holds of each case take the same atoms
+-- tests that agree on each case take the same atoms
 where_agree : (P : When → Type 0) (one two : When → Bool) (cases : List Case) → All (λ case. P case.when) cases → ((when : When) → P when → one when ≡ two when) → atoms_where one cases ≡ atoms_where two cases
 where_agree P one two [] each agree = refl
 where_agree P one two (case ∷ cases) each agree =
@@ -51,7 +52,7 @@ where_agree P one two (case ∷ cases) each agree =
     by true rest = ap (λ xs. case.atom ∷ xs) rest
     by false rest = rest
 
--- what holds of each condition of an action
+-- a fact of each condition of an action
 pub record IsOfAction (P : When → Type 0) (a : CaseAction) : Type 0 where
   pub pre : All (λ case. P case.when) a.pre
   pub add : All (λ case. P case.when) a.add
@@ -90,7 +91,7 @@ task_agree helps hinders cost helps' hinders' cost' table more less same =
     λ i. record { atoms = table.atoms; start = start i; goal = goal i; actions = actions i }
 
 -- ---- cubes that have decided every difference
--- the cube has told what the set has, and left what it lacks
+-- the told numbers of the cube are those of the set, and the left ones are the others
 pub record IsDecidedAs (d : ℕ) (cube : CubeMeaning) (s : Told) : Type 0 where
   pub told : (k : ℕ) → is_listed d k ≡ true → set.contains cube.told k ≡ set.contains s k
   pub left : (k : ℕ) → is_listed d k ≡ true → set.contains cube.left k ≡ not (set.contains s k)
@@ -150,7 +151,7 @@ single_is d told s agree =
           contains-difference nat_cmp_total (all_to d) told k ∙ true_and _ _ (contains-all_to d k ∙ listed) ∙ ap not (agree k listed);
     }
 
--- one of the two, where nothing is undecided
+-- the first or the second, where nothing is undecided
 one_of_two : (w t l o : Bool) → w ≡ true → o ≡ false → is_one_of w t l o ≡ true → l ≡ not t
 one_of_two w t l o listed none one = grind arith
 

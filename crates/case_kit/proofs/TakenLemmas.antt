@@ -13,7 +13,7 @@ use Rattle.case_kit.proofs.CaseLists.{in_where, where_has}
 use Rattle.case_kit.proofs.MemberLemmas.{must_holds, holds_may, may_somewhere, worst, IsOneWay, worst_member, worst_must}
 
 module _ (cube : CubeMeaning) (cases : List Case) where
-  -- an atom that a case gives which passes one test is given where the case passes another
+  -- an atom of a case that passes one test is an atom of a case that passes another
   given : (test : When → Bool) (case : Case) (k : ℕ) → Contains cases case → test case.when ≡ true → case.atom ≡ k → set.contains (set_of (atoms_where test cases)) k ≡ true
   given test case k among on is = subst (λ q. set.contains (set_of (atoms_where test cases)) q ≡ true) is (where_has test cases case among on)
 

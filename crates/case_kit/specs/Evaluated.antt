@@ -1,5 +1,5 @@
--- The two tasks of a cube without its members: each condition by what the cube has told and left, and
--- where it is open, by the side that a task takes.
+-- The two tasks of a cube, made without its members: each condition is evaluated by the told and
+-- the left numbers of the cube, and an open one by the side that a task takes.
 use Rattle.std.specs.Prelude.{ℕ, Bool, true, not, if◌then◌else◌, List, map, filter, Option, None}
 use Rattle.std.specs.Prelude.{Some, min, max}
 use Rattle.std.specs.FinSet as set
@@ -19,7 +19,7 @@ use Rattle.case_kit.specs.declared.costs.CaseCost.TheVariants as costs
 use Rattle.case_kit.specs.declared.action.CaseAction.{CaseAction}
 use Rattle.case_kit.specs.declared.table.CaseTable.{CaseTable}
 
--- what a task means
+-- the meaning of a task
 abbrev pub meant : Task → TaskMeaning
 meant task = task_meaning task.atoms task.start task.goal task.actions
 
@@ -35,12 +35,12 @@ must_hold cube Always = true
 must_hold cube (IfTold place) = set.contains cube.told place
 must_hold cube (IfLeft place) = set.contains cube.left place
 
--- the other way
+-- the other task
 abbrev pub opposite : Way → Way
 opposite Permissive = Restrictive
 opposite Restrictive = Permissive
 
--- the condition counts for what helps a list to be valid
+-- under this condition, something that helps a list to be valid counts
 abbrev pub counts : Way → CubeMeaning → When → Bool
 counts Permissive cube when = may_hold cube when
 counts Restrictive cube when = must_hold cube when
@@ -60,7 +60,8 @@ abbrev pub best_of : Way → Option ℕ → Option ℕ → Option ℕ
 best_of Permissive one other = least_of one other
 best_of Restrictive one other = greatest_of one other
 
--- the value, the cost, and the cost of an action, which has none where it doesn't count as known
+-- the value, the cost, and the cost of an action, which is absent if the action doesn't count as
+-- known
 abbrev pub value_by : Way → CubeMeaning → CaseValue → Option ℕ
 value_by way cube (values.One value) = value
 value_by way cube (values.Two place with without) =
@@ -82,9 +83,9 @@ known_cost_by way cube action =
 abbrev pub atoms_where : (When → Bool) → List Case → List ℕ
 atoms_where test cases = map (λ case. case.atom) (filter (λ case. test case.when) cases)
 
--- an action and a task, given which conditions count for what helps a list to be valid (initial
--- facts and adds), which count for what hinders it (goals, preconditions and deletes), and what the
--- actions cost
+-- an action and a task, given the conditions that count for what helps a list to be valid (initial
+-- facts and adds), the conditions that count for what hinders it (goals, preconditions and
+-- deletes), and the costs of the actions
 abbrev pub action_where : (When → Bool) → (When → Bool) → (CaseAction → Option ℕ) → CaseAction
     → ActionMeaning
 action_where helps hinders cost action = record {

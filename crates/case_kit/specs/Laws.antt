@@ -13,8 +13,8 @@ use Rattle.case_kit.specs.Members.{member}
 use Rattle.case_kit.specs.Relaxed.{IsPermissive, IsRestrictive}
 use Rattle.case_kit.specs.Evaluated.{permissive, restrictive, relaxed}
 
--- the permissive and the restrictive task of a cube that has a member are the ones that are made
--- case by case, and no others
+-- the permissive and the restrictive task of a cube with members are exactly the tasks that are
+-- made case by case
 pub record RelaxedLaw : Type 0 where
   pub permissive_is : (table : CaseTable) (cube : CubeMeaning) (task : TaskMeaning)
       → is_member cube cube.told ≡ true →
@@ -39,13 +39,13 @@ pub record MemberLaw : Type 0 where
   pub restrictive_decided : (table : CaseTable) (cube : CubeMeaning) → IsCube table.d cube
       → cube.undecided ≡ set.empty → restrictive table cube ≡ member table cube.told
 
--- the list is valid in the task and costs no more there than this
+-- the list is valid in the task, at this cost or a smaller one
 abbrev pub IsValidWithin : TaskMeaning → List ℕ → ℕ → Type 0
 IsValidWithin task list cost = IsValid task list × (cost_of task list ≤ cost)
 
--- what is valid in a member is valid in the permissive task, and what is valid in the restrictive
--- task is valid in each member, at no greater cost; so it is with the tasks of a cube inside
--- another one
+-- a list that is valid in a member is valid in the permissive task, and a list that is valid in the
+-- restrictive task is valid in each member, at no greater cost; the same holds for the tasks of an
+-- inner cube
 pub record ListLaw : Type 0 where
   pub from_member : (table : CaseTable) (cube : CubeMeaning) (told : Told) (list : List ℕ)
       → is_member cube told ≡ true →
@@ -64,8 +64,8 @@ pub record ListLaw : Type 0 where
       IsValid (restrictive table outer) list
       → IsValidWithin (restrictive table inner) list (cost_of (restrictive table outer) list)
 
--- once one more difference is decided, an action in which it has no part is in both tasks what it
--- was
+-- deciding one more difference leaves an action unchanged in both tasks if the difference has no
+-- part in it
 abbrev pub ChildLaw : Type 0
 ChildLaw =
     (way : Way) (table : CaseTable) (cube : CubeMeaning) (place : ℕ) (side : Side) (i : ℕ)

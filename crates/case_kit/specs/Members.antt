@@ -1,5 +1,5 @@
--- The members of a case table. After a set of differences is told and the others are left, each
--- condition holds or not, and each cost has its value: that is a task on numbers.
+-- The members of a case table. When a set of differences is told and the others are left, each
+-- condition holds or fails, and each cost has its value; the result is a task on numbers.
 use Rattle.std.specs.Prelude.{ℕ, Bool, true, not, if◌then◌else◌, List, map, filter, Option, None}
 use Rattle.std.specs.FinSet as set
 use Rattle.cube_kit.specs.Cubes.{Told}
@@ -20,7 +20,7 @@ holds told Always = true
 holds told (IfTold place) = set.contains told place
 holds told (IfLeft place) = not (set.contains told place)
 
--- the value, the cost, and the cost of an action, which has none where it isn't known
+-- the value, the cost, and the cost of an action, which is absent if the action isn't known
 abbrev pub value_after : Told → CaseValue → Option ℕ
 value_after told (values.One value) = value
 value_after told (values.Two place with without) = if set.contains told place then with else without

@@ -20,7 +20,7 @@ stands_in_cost (costs.One value) k = stands_in_value value k
 stands_in_cost (costs.Two place told left) k =
     place == k || (stands_in_value told k || stands_in_value left k)
 
--- some number is in the value, in the cost
+-- the value has a number, the cost has a number
 abbrev pub has_value : CaseValue → Bool
 has_value (values.One value) = is_some value
 has_value (values.Two place told left) = is_some told || is_some left
@@ -29,17 +29,18 @@ abbrev pub has_cost : CaseCost → Bool
 has_cost (costs.One value) = has_value value
 has_cost (costs.Two place told left) = has_value told || has_value left
 
--- the condition is on the difference
+-- the condition depends on the difference
 abbrev pub speaks_of : When → ℕ → Bool
 speaks_of Always k = false
 speaks_of (IfTold place) k = place == k
 speaks_of (IfLeft place) k = place == k
 
--- the difference is among the cases
+-- the difference is in a condition of the cases
 abbrev pub stands_among : List Case → ℕ → Bool
 stands_among cases k = list_any (λ case. speaks_of case.when k) cases
 
--- the difference has a part in the action: in a case, in whether it is known, or in its cost
+-- the difference has a part in the action: in a case, in its cost, or in the condition under which
+-- it is known
 abbrev pub touches : CaseAction → ℕ → Bool
 touches action k =
     stands_among action.pre k || (stands_among action.add k

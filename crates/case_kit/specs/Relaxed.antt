@@ -1,6 +1,6 @@
--- The two tasks of a cube, by its members. The permissive task has what helps a list to be valid in
--- some member and what hinders it in every member, at the least costs; the restrictive task is the
--- reverse.
+-- The two tasks of a cube, described by its members. The permissive task has what helps a list to
+-- be valid in some member and what hinders it in every member, at the least costs; the restrictive
+-- task is the reverse.
 use Rattle.std.specs.Prelude.{ℕ, ◌≡◌, ◌≤◌, ◌↔◌, true, Option, None, Some, length}
 use Rattle.std.specs.FinSet as set
 use Rattle.cube_kit.specs.Cubes.{Told, CubeMeaning, is_member}
@@ -8,14 +8,14 @@ use Rattle.task_kit.specs.Tasks.{Numbers, ActionMeaning, TaskMeaning, action_at}
 use Rattle.case_kit.specs.declared.table.CaseTable.{CaseTable}
 use Rattle.case_kit.specs.Members.{member}
 
--- some member of the cube is so, each member is so
+-- some member of the cube has the property, each member has it
 abbrev pub SomeMember : CubeMeaning → (Told → Type 0) → Type 0
 SomeMember cube IsSo = (told : Told) × (is_member cube told ≡ true) × IsSo told
 
 abbrev pub EveryMember : CubeMeaning → (Told → Type 0) → Type 0
 EveryMember cube IsSo = (told : Told) → is_member cube told ≡ true → IsSo told
 
--- the numbers are those that some member has, those that each member has
+-- the set has the numbers that some member has, the numbers that each member has
 abbrev pub AreOfSome : CubeMeaning → (Told → Numbers) → Numbers → Type 0
 AreOfSome cube of_member numbers =
     (k : ℕ) → (set.contains numbers k ≡ true)
@@ -32,14 +32,15 @@ IsNoDearer one None = Unit {0}
 IsNoDearer None (Some other) = ⊥
 IsNoDearer (Some one) (Some other) = one ≤ other
 
--- some member has this cost, and none has a smaller one; so it is absent only where each member has
--- none
+-- some member has this cost, and no member has a smaller one; it is absent only if it is absent in
+-- each member
 pub record IsLeastCost (cube : CubeMeaning) (of_member : Told → Option ℕ)
     (cost : Option ℕ) : Type 0 where
   pub some : SomeMember cube (λ told. of_member told ≡ cost)
   pub least : EveryMember cube (λ told. IsNoDearer cost (of_member told))
 
--- some member has this cost, and none has a greater one; so it is absent where some member has none
+-- some member has this cost, and no member has a greater one; it is absent if it is absent in some
+-- member
 pub record IsGreatestCost (cube : CubeMeaning) (of_member : Told → Option ℕ)
     (cost : Option ℕ) : Type 0 where
   pub some : SomeMember cube (λ told. of_member told ≡ cost)

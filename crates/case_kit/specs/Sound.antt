@@ -1,5 +1,5 @@
--- What a case table may hold. Differences count from 1 to d and atoms from 0, and the number of atoms
--- means what can never be true.
+-- The form of case tables. Differences count from 1 to d and atoms from 0, and the number of atoms
+-- means whatever can never be true.
 use Rattle.std.specs.Prelude.{ℕ, ◌+◌, ◌≡◌, ◌≤◌, ◌<◌, Bool, true, ◌&&◌, not, List, length, All}
 use Rattle.std.specs.Prelude.{Contains, ◌⊎◌}
 use Rattle.cube_kit.specs.Cubes.{is_listed}
@@ -13,7 +13,7 @@ use Rattle.case_kit.specs.declared.costs.CaseCost.TheVariants as costs
 use Rattle.case_kit.specs.declared.action.CaseAction.{CaseAction}
 use Rattle.case_kit.specs.Parts.{stands_in_value, stands_in_cost}
 
--- the difference of a condition, of a value, of a cost, where there is one, is one of 1 to d
+-- the difference of a condition, of a value, of a cost, if there is one, is one of 1 to d
 abbrev pub is_listed_in : ℕ → When → Bool
 is_listed_in d Always = true
 is_listed_in d (IfTold place) = is_listed d place
@@ -34,7 +34,7 @@ is_apart (costs.One value) = true
 is_apart (costs.Two place told left) =
     not (stands_in_value told place) && not (stands_in_value left place)
 
--- the difference of a condition is nowhere in the cost
+-- the difference of a condition isn't in the cost
 abbrev pub is_beside : CaseCost → When → Bool
 is_beside cost Always = true
 is_beside cost (IfTold place) = not (stands_in_cost cost place)
@@ -78,6 +78,6 @@ pub record IsCaseTable (d atoms : ℕ) (start goal : List Case)
   pub starts : All (IsCase d atoms) start
   pub goals : All (IsCase d (atoms + 1)) goal
   pub each : All (IsCaseAction d atoms) actions
-  -- no difference is both in a condition on what is told and in one on what is left
+  -- no difference is both in a condition for told and in a condition for left
   pub one_way : (place : ℕ) → Stands start goal actions (IfTold place)
       → Stands start goal actions (IfLeft place) → ⊥

@@ -1,5 +1,5 @@
--- What a list of actions costs over a cube: the sum of the least costs, and the sum of the greatest
--- ones. A sum with an absent part is absent, and so above every number.
+-- The costs of a list of actions over a cube: the sum of the least costs, and the sum of the
+-- greatest ones. A sum with an absent part is absent, and so above every number.
 use Rattle.std.specs.Prelude.{ℕ, ◌+◌, ◌≡◌, true, List, [], ◌∷◌, Option, None, Some}
 use Rattle.cube_kit.specs.Cubes.{Told, CubeMeaning, is_member, is_inside}
 use Rattle.task_kit.specs.Tasks.{TaskMeaning, cost_at, IsValid, cost_of}
@@ -26,9 +26,9 @@ least_sum table cube list = sum_of (permissive table cube) list
 abbrev pub greatest_sum : CaseTable → CubeMeaning → List ℕ → Option ℕ
 greatest_sum table cube list = sum_of (restrictive table cube) list
 
--- a valid list has a sum, which is its cost; in each member a list costs no less than its least
--- cost over the cube and no more than its greatest; and the least and greatest costs over an inner
--- cube lie between those over the outer one
+-- a valid list has a sum, which is its cost; in each member the cost of a list is between its least
+-- and its greatest cost over the cube; and the least and greatest costs over an inner cube are
+-- between those over the outer one
 pub record SumLaw : Type 0 where
   pub valid : (task : TaskMeaning) (list : List ℕ) → IsValid task list
       → sum_of task list ≡ Some (cost_of task list)

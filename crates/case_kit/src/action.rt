@@ -9,7 +9,7 @@ use mre_base::{Copied, List, NoMemory};
 use std::alloc::Global;
 
 /// A ground action in all models: the cases of its preconditions, adds and deletes, its cost, and
-/// when a model knows it. Where it isn't known it has no cost.
+/// the condition under which a model knows it. In a model that doesn't know it, it has no cost.
 #[derive(Debug)]
 pub struct CaseAction {
     pub pre: List<Case>,
@@ -55,8 +55,8 @@ fn any_speaks_of(cases: &List<Case>, number: u32) -> bool
 }
 
 impl CaseAction {
-    /// Whether the difference has a part in the action: in a case, in its cost, or in whether it is
-    /// known.
+    /// Whether the difference has a part in the action: in a case, in its cost, or in the condition
+    /// under which it is known.
     pub fn touches(&self, number: u32) -> bool
         ensures { result ≡ touches self.now number }
     {

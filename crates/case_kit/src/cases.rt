@@ -1,4 +1,4 @@
-//! Cases: an atom, and when it is there.
+//! Cases: an atom, and the condition under which it is there.
 
 ghost use Rattle.std.specs.Prelude.{◌≡◌};
 ghost use Rattle.case_kit.specs.Parts.{speaks_of};
@@ -6,18 +6,18 @@ ghost use Rattle.case_kit.specs.Parts.{speaks_of};
 use mre_base::{Copied, NoMemory};
 use std::alloc::Global;
 
-/// When a case is on. The differences count from 1.
+/// A condition. Differences count from 1.
 #[derive(Clone, Copy, Debug)]
 pub enum When {
     /// In both models.
     Always,
-    /// In the planner's model alone: where this difference is told.
+    /// Only in the planner's model: where this difference is told.
     IfTold(u32),
-    /// In the user's model alone: where this difference is left.
+    /// Only in the user's model: where this difference is left.
     IfLeft(u32),
 }
 
-/// An atom by its number, and when it is meant.
+/// The number of an atom, and its condition.
 #[derive(Clone, Copy, Debug)]
 pub struct Case {
     pub atom: u32,
@@ -31,7 +31,7 @@ impl Copied for Case {
 }
 
 impl When {
-    /// Whether the condition is on this difference.
+    /// Whether the condition depends on this difference.
     pub fn speaks_of(self, place: u32) -> bool
         ensures { result ≡ speaks_of self place }
     {

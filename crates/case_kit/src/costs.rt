@@ -1,4 +1,4 @@
-//! Costs by what is told.
+//! Costs that depend on the told differences.
 
 ghost use Rattle.std.specs.Prelude.{◌≡◌, ◌↔◌, IsTrue, IsSome};
 ghost use Rattle.cube_kit.specs.Cubes.{Told};
@@ -6,11 +6,11 @@ ghost use Rattle.case_kit.specs.declared.cases.When.{When};
 ghost use Rattle.case_kit.specs.Parts.{has_value, has_cost, stands_in_value, stands_in_cost};
 ghost use Rattle.case_kit.specs.Sound.{is_apart, is_beside};
 
-/// A number that may be absent: the same in both models, or by a difference.
+/// A number that may be absent: the same in both models, or chosen by a difference.
 #[derive(Clone, Copy, Debug)]
 pub enum CaseValue {
     One(Option<u32>),
-    /// The number where the difference at `place` is told, and where it is left.
+    /// The number if the difference at `place` is told, and the number if it is left.
     Two {
         place: u32,
         told: Option<u32>,
@@ -18,11 +18,12 @@ pub enum CaseValue {
     },
 }
 
-/// What a ground action costs: the same value in both models, or one of two by a difference.
+/// The cost of a ground action: the same value in both models, or one of two values, chosen by a
+/// difference.
 #[derive(Clone, Copy, Debug)]
 pub enum CaseCost {
     One(CaseValue),
-    /// The value where the difference at `place` is told, and where it is left.
+    /// The value if the difference at `place` is told, and the value if it is left.
     Two {
         place: u32,
         told: CaseValue,
@@ -53,8 +54,8 @@ impl CaseValue {
 impl CaseCost {
     ghost use Rattle.case_kit.specs.Members.{cost_if_known};
 
-    /// Whether there is a number in the cost. Then, and only then, there is a set of differences after
-    /// which an action has a cost, whatever the condition under which it is known.
+    /// Whether the cost has a number. Exactly then the action has a cost after some set of
+    /// differences, whatever the condition under which it is known.
     pub fn has_number(self) -> bool
         requires { IsTrue (is_apart self) }
         ensures { (known : When) → IsTrue (is_beside self known) →

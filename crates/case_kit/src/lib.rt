@@ -1,5 +1,5 @@
 //! Case tables: the tasks of all sets of differences in one table, and for a cube of sets the two
-//! tasks that bound those of its members.
+//! tasks that bound the tasks of its members.
 #![tactic(auto)]
 
 mod action;

@@ -77,7 +77,7 @@ fn cost_by(cost: CaseCost, cube: &Cube, way: Way) -> Option<u32>
     }
 }
 
-/// What an action costs in a task of a cube. It has no cost where it doesn't count as known.
+/// The cost of an action in a task of a cube. It has no cost if it doesn't count as known.
 pub fn known_cost_by(action: &CaseAction, cube: &Cube, way: Way) -> Option<u32>
     requires known { IsTrue (is_listed_in 256 action.now.known) }
     requires cost { IsTrue (is_cost_listed 256 action.now.cost) }

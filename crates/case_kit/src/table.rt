@@ -16,8 +16,8 @@ use mre_base::{Bits, Copied, List, NoMemory};
 use std::alloc::Global;
 use task_kit::{Task, TaskAction};
 
-/// The tasks of all sets of the differences 1 to `d`: each condition and each cost says how it is where
-/// a set is told and the rest is left. Atoms count from 0, and `atoms` means all that can never be true.
+/// The tasks of all sets of the differences 1 to `d`. Each condition and each cost depends on the
+/// told set. Atoms count from 0, and `atoms` means whatever can never be true.
 #[derive(Debug)]
 pub struct CaseTable {
     pub d: u32,
@@ -59,8 +59,8 @@ impl CaseTable {
         })
     }
 
-    /// The task in which all that may help is there, and what may hinder is not: each list that is
-    /// valid in some member of the cube is valid here, at no greater cost.
+    /// The task with all that may help and nothing that may hinder: each list that is valid in some
+    /// member of the cube is valid here, at no greater cost.
     pub fn permissive(&self, alloc: Global, cube: &Cube) -> Result<Task, NoMemory>
         requires cube { IsCube self.now.d cube.now }
         ensures permissive { IfOk result (λ task. IsPermissive self.now cube.now (meant task)) }
@@ -69,8 +69,8 @@ impl CaseTable {
         Ok(self.task_by(alloc, cube, Way::Permissive)?)
     }
 
-    /// The task in which all that may hinder is there, and what may help is not: each list that is
-    /// valid here is valid in every member of the cube, at no greater cost.
+    /// The task with all that may hinder and nothing that may help: each list that is valid here is
+    /// valid in every member of the cube, at no greater cost.
     pub fn restrictive(&self, alloc: Global, cube: &Cube) -> Result<Task, NoMemory>
         requires cube { IsCube self.now.d cube.now }
         ensures restrictive { IfOk result (λ task. IsRestrictive self.now cube.now (meant task)) }
@@ -79,7 +79,7 @@ impl CaseTable {
         Ok(self.task_by(alloc, cube, Way::Restrictive)?)
     }
 
-    /// The least cost of an action over the members of the cube in which it has one.
+    /// The least cost of an action over the members of the cube in which it has a cost.
     pub fn low(&self, action: u32, cube: &Cube) -> Option<u32>
         requires action { action < length self.now.actions }
         requires cube { IsCube self.now.d cube.now }
@@ -90,7 +90,7 @@ impl CaseTable {
         self.cost_by(action, cube, Way::Permissive)
     }
 
-    /// The greatest cost of an action over the members of the cube, or none where it has none in
+    /// The greatest cost of an action over the members of the cube, or `None` if it has no cost in
     /// some member.
     pub fn high(&self, action: u32, cube: &Cube) -> Option<u32>
         requires action { action < length self.now.actions }

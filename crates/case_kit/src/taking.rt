@@ -34,7 +34,8 @@ fn must_hold(when: When, cube: &Cube) -> bool
     }
 }
 
-/// Whether what helps a list to be valid counts in the task of a cube, under its condition.
+/// Whether, under this condition, something that helps a list to be valid counts in the task of a
+/// cube.
 pub fn counts(when: When, cube: &Cube, way: Way) -> bool
     requires { IsTrue (is_listed_in 256 when) }
     ensures { result ≡ counts way cube.now when }

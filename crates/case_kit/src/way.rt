@@ -3,8 +3,8 @@
 ghost use Rattle.std.specs.Prelude.{◌≡◌};
 ghost use Rattle.case_kit.specs.Evaluated.{opposite};
 
-/// Which of the two tasks of a cube is meant: the one in which every list that is valid in some
-/// member is valid, or the one whose valid lists are valid in every member.
+/// One of the two tasks of a cube: the task in which every list is valid that is valid in some
+/// member, or the task whose valid lists are valid in every member.
 #[derive(Clone, Copy, Debug)]
 pub enum Way {
     Permissive,

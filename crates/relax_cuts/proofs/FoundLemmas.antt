@@ -7,7 +7,8 @@ use Rattle.task_kit.specs.declared.cut.Cut.{Cut}
 use Rattle.task_kit.specs.Cuts.{most, CutMeaning, IsCutOf}
 use Rattle.task_kit.specs.Kept.{all_but, cut_meaning, cuts_meaning}
 use Rattle.task_kit.specs.Tasks.{Numbers, TaskMeaning, IsTask, price}
-use Rattle.task_kit.proofs.PlaceLemmas.{length_pushed, none_some}
+use Rattle.std.proofs.lemmas.Option.{none-some}
+use Rattle.task_kit.proofs.PlaceLemmas.{length_pushed}
 use Rattle.relax_cuts.specs.Closing.{Spreads}
 use Rattle.relax_cuts.specs.FreeClosure.{AreForced}
 use Rattle.relax_cuts.specs.Leaving.{is_counted, Leave, IsLeastLeft, IsWeight, IsCutSet, IsFormed, AreCuts, AreFound}
@@ -17,7 +18,7 @@ module _ (task : TaskMeaning) (state : Numbers) where
   -- before the first round
   pub cuts_none : (cuts : List Cut) → cuts ≡ [] → AreCuts task state cuts
   cuts_none cuts e =
-      subst (AreCuts task state) (sym e) (record { formed = All-nil (IsFormed task.atoms); each = All-nil (IsCutOf task state); used = λ place cut at. absurd (none_some cut at) })
+      subst (AreCuts task state) (sym e) (record { formed = All-nil (IsFormed task.atoms); each = All-nil (IsCutOf task state); used = λ place cut at. absurd (none-some cut at) })
 
   pub leave_all : (cuts : List Cut) (left : List ℕ) → cuts ≡ [] → length left ≡ length task.actions → ((action : ℕ) → action < length task.actions → slice_index left action ≡ price task action) → Leave task (cuts_meaning task.atoms cuts) left
   leave_all cuts left e sized each = subst (λ xs. Leave task (cuts_meaning task.atoms xs) left) (sym e) (leave_none task left sized each)
@@ -32,7 +33,7 @@ module _ (task : TaskMeaning) (state : Numbers) where
           lean = lean_of task (cuts_meaning task.atoms cuts) so_far.used;
         }
 
-    -- the goal atoms are in the closure
+    -- the closure includes the goal atoms
     pub found_goal : (closure : Numbers) → Spreads task left 0 state closure → set.is_subset task.goal closure ≡ true → AreFound task state cuts
     found_goal closure spreads reached = found_by (forced_by_goal task state closure cuts left so_far.formed leave spreads reached)
 
@@ -79,7 +80,7 @@ module _ (task : TaskMeaning) (state : Numbers) where
         least_here : IsLeastLeft task (length task.actions) left (all_but task.atoms lacks) weight
         least_here = subst (λ s. IsLeastLeft task (length task.actions) left s weight) (sym e) least
 
-        -- one cut more
+        -- one more cut
         pub cuts_more : IsTask task → 0 < weight → AreCuts task state new
         cuts_more is_task lt =
             record {

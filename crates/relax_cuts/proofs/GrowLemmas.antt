@@ -1,37 +1,20 @@
--- How sets of atoms grow.
+-- The growth of sets of atoms.
 use Rattle.std.proofs.Common.{◌≡◌, ℕ, zero, suc, ◌+◌, ◌≤◌, ◌<◌, Bool, true, false, cond, List, refl, sym, ap, ◌∙◌, arith, subst, ◌⊎◌, inl, inr}
 use Rattle.std.proofs.lemmas.Bool.{or_cases, or_left, or_right, eq-eqb, eqb-true, cases_lt}
 use Rattle.std.specs.Cmp.{nat_cmp_total}
 use Rattle.std.specs.FinSet as set
 use Rattle.std.specs.FinSet.{is_subset-contains, contains-is_subset}
-use Rattle.mre_base.proofs.SetsBelow.{contains-insert_nat}
+use Rattle.mre_base.proofs.SetsBelow.{contains-insert_nat, has_inserted, has_before, insert_cases}
 use Rattle.task_kit.specs.Tasks.{Numbers, TaskMeaning, IsTask, action_at}
 use Rattle.task_kit.proofs.StepLemmas.{subset-trans, applies_more}
 use Rattle.relax_cuts.specs.Closing.{IsUsable, IsLoose, Spreads, AddsSome}
 
--- ---- one atom more
+-- ---- one more atom
 pub subset-itself : (s : Numbers) → set.is_subset s s ≡ true
 subset-itself s = contains-is_subset nat_cmp_total s s (λ q there. there)
 
-pub inserted : (s : Numbers) (x : ℕ) → set.contains (set.insert s x) x ≡ true
-inserted s x = contains-insert_nat s x x ∙ or_left _ _ (eq-eqb x x refl)
-
-kept_inserted : (s : Numbers) (x q : ℕ) → set.contains s q ≡ true → set.contains (set.insert s x) q ≡ true
-kept_inserted s x q there = contains-insert_nat s x q ∙ or_right _ _ there
-
-inserted_cases : (s : Numbers) (x q : ℕ) → set.contains (set.insert s x) q ≡ true → (q ≡ x) ⊎ (set.contains s q ≡ true)
-inserted_cases s x q there = elim (or_cases _ _ (sym (contains-insert_nat s x q) ∙ there)) [ inl e ↦ inl (eqb-true q x e) | inr h ↦ inr h ]
-
 pub insert_grows : (s : Numbers) (x : ℕ) → set.is_subset s (set.insert s x) ≡ true
-insert_grows s x = contains-is_subset nat_cmp_total s (set.insert s x) (λ q there. kept_inserted s x q there)
-
-insert_within : (s other : Numbers) (x : ℕ) → set.is_subset s other ≡ true → set.contains other x ≡ true → set.is_subset (set.insert s x) other ≡ true
-insert_within s other x has there =
-    contains-is_subset nat_cmp_total (set.insert s x) other (λ q in_more.
-    elim (inserted_cases s x q in_more) [
-      | inl same ↦ ap (set.contains other) same ∙ there
-      | inr h ↦ is_subset-contains nat_cmp_total s other has q h
-    ])
+insert_grows s x = contains-is_subset nat_cmp_total s (set.insert s x) (λ q there. has_before s x q there)
 
 -- ---- some of the adds of an action
 pub adds_none : (adds s : Numbers) → AddsSome adds s s
@@ -42,7 +25,7 @@ adds_more adds old mid new x some wanted is =
     subst (AddsSome adds old) (sym is) (record {
       grows = subset-trans old mid (set.insert mid x) some.grows (insert_grows mid x);
       only = λ q there.
-          elim (inserted_cases mid x q there) [
+          elim (insert_cases mid x q there) [
             | inl same ↦ inr (ap (set.contains adds) same ∙ wanted)
             | inr h ↦ some.only q h
           ];
@@ -81,13 +64,13 @@ module _ (task : TaskMeaning) (left : List ℕ) (limit : ℕ) where
             ];
       }
 
-  -- a loose atom more
+  -- one more loose atom
   pub spreads_loose : (s new : Numbers) (atom : ℕ) → IsTask task → IsLoose task left limit s atom → new ≡ set.insert s atom → Spreads task left limit s new
   spreads_loose s new atom is loose e =
       spreads_adds loose.action s new is loose.usable
       (adds_more (action_at task loose.action).add s s new atom (adds_none (action_at task loose.action).add s) loose.added e)
 
--- ---- how many numbers below a bound a set lacks
+-- ---- the number of numbers below a bound that a set lacks
 abbrev pub lacked_below : ℕ → Numbers → ℕ
 lacked_below zero s = 0
 lacked_below (suc n) s = cond (set.contains s n) 0 1 + lacked_below n s
@@ -126,8 +109,8 @@ module _ (s t : Numbers) (grows : (q : ℕ) → set.contains s q ≡ true → se
             lt_sum _ _ _ _ (one_lt (set.contains s n) (set.contains t n) (ap (set.contains s) (sym same) ∙ out) (ap (set.contains t) (sym same) ∙ there)) (lacked-le n)
       ]
 
--- one less with a number that it lacked
+-- one less after an insertion of a number that the set lacked
 pub lacked_less : (bound : ℕ) (s new : Numbers) (x : ℕ) → x < bound → set.contains s x ≡ false → new ≡ set.insert s x → lacked_below bound new < lacked_below bound s
 lacked_less bound s new x lt out e =
     subst (λ t. lacked_below bound t < lacked_below bound s) (sym e)
-    (lacked-lt s (set.insert s x) (λ q there. kept_inserted s x q there) bound x lt out (inserted s x))
+    (lacked-lt s (set.insert s x) (λ q there. has_before s x q there) bound x lt out (has_inserted s x))

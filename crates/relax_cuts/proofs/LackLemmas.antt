@@ -20,10 +20,6 @@ pub record ListsLacks (bound : ℕ) (among : Numbers) (lacks : List ℕ) : Type 
   pub ascending : IsStrictlyIncreasing lacks
   pub below : All (λ atom. atom < bound) lacks
 
-pub lists_none : (among : Numbers) (lacks : List ℕ) → lacks ≡ [] → ListsLacks 0 among lacks
-lists_none among lacks e =
-    subst (ListsLacks 0 among) (sym e) (record { each = λ k lt. absurd (omega arith); ascending = λ k lt. absurd (omega arith); below = All-nil (λ atom. atom < 0) })
-
 at_two : (a b x y : ℕ) → a ≡ x → b ≡ y → x < y → a < b
 at_two a b x y one two lt = omega arith
 
@@ -74,6 +70,6 @@ module _ (bound : ℕ) (among : Numbers) (lacks : List ℕ) (lists : ListsLacks 
             pushed k ∙ ap (λ b. b || set.contains (set_of lacks) k) (eq-eqb k bound same) ∙ sym (ap (λ j. not (set.contains among j)) same ∙ ap not out)
       ]
 
--- and so it is the list of a cut with this set
+-- the list is that of a cut with this set
 pub lists_all : (bound at : ℕ) (among : Numbers) (lacks : List ℕ) → ListsLacks at among lacks → bound ≤ at → AllBelow bound among → all_but bound lacks ≡ among
 lists_all bound at among lacks lists le below = all_but-is bound lacks among below (λ k lt. lists.each k (omega arith))

@@ -1,4 +1,4 @@
--- What cuts leave of the costs of actions, and what follows for the cuts.
+-- The costs of actions that cuts leave, and what follows for the cuts.
 use Rattle.std.proofs.Common.{◌≡◌, ℕ, ◌+◌, ◌^◌, ◌≤◌, ◌<◌, Bool, true, false, cond, List, [], ◌∷◌, ◌++◌, length, take, refl, sym, ap, ◌∙◌, arith, subst, inl, inr, slice_index, unwrap_or, Option, Some, None, is_some, slice_get, All, not, min}
 use Rattle.std.proofs.lemmas.Bool.{cases_lt, and_parts, false≢true, false_from_ne_true, both_ways}
 use Rattle.std.proofs.lemmas.List.{map-append, take-append-le, take_all}
@@ -10,7 +10,11 @@ use Rattle.task_kit.specs.declared.cut.Cut.{Cut}
 use Rattle.task_kit.specs.Cuts.{most, CutMeaning, counts, weight_of, IsCutOf}
 use Rattle.task_kit.specs.Kept.{cut_meaning, cuts_meaning}
 use Rattle.task_kit.specs.Tasks.{Numbers, ActionMeaning, TaskMeaning, IsTask, no_action, cost_at, price}
-use Rattle.task_kit.proofs.PlaceLemmas.{none_some, same_some, push_cases, place_within, length_pushed}
+use Rattle.std.proofs.lemmas.Option.{none-some, slice_get_within}
+use Rattle.mre_base.proofs.Options.{same_some}
+use Rattle.mre_base.proofs.Tests.{not_false}
+use Rattle.task_kit.proofs.CutWeights.{weight_of-push, none_at, not_counted}
+use Rattle.task_kit.proofs.PlaceLemmas.{push_cases, length_pushed}
 use Rattle.task_kit.proofs.StepLemmas.{subset-trans}
 use Rattle.relax_cuts.specs.Closing.{IsUsable, IsClosedUnder, Spreads}
 use Rattle.relax_cuts.specs.FreeClosure.{IsFreeClosure, AreForced}
@@ -18,33 +22,12 @@ use Rattle.relax_cuts.specs.Lean.{UsesUp, CountsNone, AreLean}
 use Rattle.task_kit.specs.Atoms.{lesser_of}
 use Rattle.relax_cuts.specs.Leaving.{is_counted, Leave, IsLeastLeft, IsWeight, IsFormed, EachUsesUp}
 
--- ---- sums of weights
-add_three : (a b c : ℕ) → a + (b + c) ≡ a + b + c
-add_three a b c = omega arith
-
-weight_of-append : (test : CutMeaning → Bool) (xs ys : List CutMeaning) → weight_of test (xs ++ ys) ≡ weight_of test xs + weight_of test ys
-weight_of-append test [] ys = omega arith
-weight_of-append test (x ∷ xs) ys = ap (λ n. cond (test x) x.weight 0 + n) (weight_of-append test xs ys) ∙ add_three _ _ _
-
-weight_of-push : (test : CutMeaning → Bool) (xs : List CutMeaning) (x : CutMeaning) → weight_of test (xs ++ x ∷ []) ≡ weight_of test xs + cond (test x) x.weight 0
-weight_of-push test xs x = weight_of-append test xs (x ∷ []) ∙ ap (λ n. weight_of test xs + n) (last (cond (test x) x.weight 0)) where
-  last : (n : ℕ) → n + 0 ≡ n
-  last n = omega arith
-
 -- ---- actions that aren't listed
-none_at : (xs : List ActionMeaning) (i : ℕ) → length xs ≤ i → unwrap_or (slice_get xs i) no_action ≡ no_action
-none_at xs i past = ap (λ o. unwrap_or o no_action) (slice_get_past xs i past)
-
 never_counted : (task : TaskMeaning) (action : ℕ) (among : Numbers) → length task.actions ≤ action → is_counted task action among ≡ false
 never_counted task action among past =
     false_from_ne_true _ (λ yes. false≢true (sym (ap (λ a. is_some a.cost) (none_at task.actions action past)) ∙ (and_parts _ _ (and_parts _ _ yes).0).0))
 
-not_counted : (task : TaskMeaning) (action : ℕ) (cuts : List CutMeaning) → length task.actions ≤ action → weight_of (counts task action) cuts ≡ 0
-not_counted task action [] past = refl
-not_counted task action (cut ∷ cuts) past =
-    ap (λ b. cond b cut.weight 0 + weight_of (counts task action) cuts) (never_counted task action cut.among past) ∙ ap (λ n. 0 + n) (not_counted task action cuts past)
-
--- ---- what is left
+-- ---- the costs that are left
 module _ (task : TaskMeaning) where
   pub leave_none : (left : List ℕ) → length left ≡ length task.actions → ((action : ℕ) → action < length task.actions → slice_index left action ≡ price task action) → Leave task [] left
   leave_none left sized each = record { sized = sized; each = λ action lt. none_more _ _ (each action lt) } where
@@ -80,7 +63,7 @@ module _ (task : TaskMeaning) where
     by_sum : (l w p : ℕ) → l + w ≡ p → l ≤ p
     by_sum l w p e = omega arith
 
-  -- a cut that uses up the least that is left of an action that it counts
+  -- a cut that uses up the least cost left of an action that it counts
   module _ (cuts : List CutMeaning) (left : List ℕ) (leave : Leave task cuts left) (cut : CutMeaning) (least : IsLeastLeft task (length task.actions) left cut.among cut.weight) where
     pub uses_up : UsesUp task cuts cut
     uses_up = (
@@ -99,7 +82,7 @@ module _ (task : TaskMeaning) where
       small : (l w p : ℕ) → l ≡ w → l ≤ p → p < 2 ^ 32 → w ≤ most
       small l w p e le lt = omega arith
 
--- ---- the least that is left, one action after another
+-- ---- the least cost left, one action after another
 module _ (task : TaskMeaning) (left : List ℕ) (among : Numbers) (i : ℕ) where
   past_same : (other : ℕ) → other < i + 1 → i ≤ other → i ≡ other
   past_same other lt le = omega arith
@@ -175,7 +158,7 @@ module _ (task : TaskMeaning) (left : List ℕ) (among : Numbers) (i : ℕ) wher
       at_most : (n m k : ℕ) → n < m → m ≤ k → n ≤ k
       at_most n m k lt le = omega arith
 
--- nothing is counted at all where none of the listed actions is
+-- a cut that counts none of the listed actions counts no action
 pub counts_none : (task : TaskMeaning) (left : List ℕ) (cut : CutMeaning) → IsWeight task (length task.actions) left cut.among None → CountsNone task cut
 counts_none task left cut none action =
     elim (cases_lt action (length task.actions)) [
@@ -183,7 +166,7 @@ counts_none task left cut none action =
       | inr past ↦ never_counted task action cut.among past
     ]
 
--- in a closed set something is left of each action that is counted
+-- if the set is closed, something is left of the cost of each counted action
 pub above_0 : (task : TaskMeaning) (left : List ℕ) (among : Numbers) (weight : ℕ) → IsClosedUnder task left 0 among → IsLeastLeft task (length task.actions) left among weight → 0 < weight
 above_0 task left among weight closed least =
     elim (cases_lt 0 weight) [
@@ -191,18 +174,14 @@ above_0 task left among weight closed least =
       | inr le ↦
           let parts = and_parts _ _ least.counted in
           let usable : IsUsable task left 0 least.action among = record { listed = least.listed; cheap = omega (arith, least.here); does = parts.0 } in
-          absurd (both_ways _ (false_from_not _ parts.1) (closed least.action usable))
+          absurd (both_ways _ (not_false _ parts.1) (closed least.action usable))
     ]
-  where
-    false_from_not : (b : Bool) → not b ≡ true → b ≡ false
-    false_from_not true e = absurd (cc)
-    false_from_not false e = refl
 
 pub above_all : (task : TaskMeaning) (left : List ℕ) (among : Numbers) (least : Option ℕ) → IsClosedUnder task left 0 among → IsWeight task (length task.actions) left among least → ForSome least (λ weight. 0 < weight)
-above_all task left among None closed weigh = λ weight e. absurd (none_some weight e)
+above_all task left among None closed weigh = λ weight e. absurd (none-some weight e)
 above_all task left among (Some w) closed weigh = λ weight e. subst (λ n. 0 < n) (same_some w weight e) (above_0 task left among w closed weigh)
 
--- ---- one cut more
+-- ---- one more cut
 module _ (task : TaskMeaning) (state : Numbers) (cuts : List Cut) (cut : Cut) (new : List Cut) (is : new ≡ cuts ++ cut ∷ []) where
   abbrev ms : List CutMeaning
   ms = cuts_meaning task.atoms cuts
@@ -222,12 +201,12 @@ module _ (task : TaskMeaning) (state : Numbers) (cuts : List Cut) (cut : Cut) (n
   taken_before : (place : ℕ) → place ≤ length ms → take place (ms ++ m ∷ []) ≡ take place ms
   taken_before place le = take-append-le place ms (m ∷ []) le
 
-  -- what holds of each cut and those before it
+  -- each cut and those before it
   places_more : (P : List CutMeaning → CutMeaning → Type 0) → ((place : ℕ) (c : CutMeaning) → slice_get ms place ≡ Some c → P (take place ms) c) → P ms m
       → (place : ℕ) (c : CutMeaning) → slice_get (ms ++ m ∷ []) place ≡ Some c → P (take place (ms ++ m ∷ [])) c
   places_more P each one place c at =
       elim (push_cases ms m place c at) [
-        | inl there ↦ subst (λ before. P before c) (sym (taken_before place (below _ _ (place_within ms place c there)))) (each place c there)
+        | inl there ↦ subst (λ before. P before c) (sym (taken_before place (below _ _ (slice_get_within ms place c there)))) (each place c there)
         | inr (e, same) ↦ subst (λ before. P before c) (sym (taken_before place (same_le _ _ e) ∙ take_all place ms (same_ge _ _ e))) (subst (P ms) (sym same) one)
       ]
     where
@@ -249,7 +228,7 @@ module _ (task : TaskMeaning) (state : Numbers) (cuts : List Cut) (cut : Cut) (n
     lean : AreLean task (ms ++ m ∷ [])
     lean place c at =
         elim (push_cases ms m place c at) [
-          | inl there ↦ inl (subst (λ before. UsesUp task before c) (sym (taken_before place (below _ _ (place_within ms place c there)))) (each place c there))
+          | inl there ↦ inl (subst (λ before. UsesUp task before c) (sym (taken_before place (below _ _ (slice_get_within ms place c there)))) (each place c there))
           | inr (e, same) ↦ inr (last _ _ _ e (length_pushed ms m), subst (CountsNone task) (sym same) none)
         ]
       where
@@ -264,7 +243,7 @@ module _ (task : TaskMeaning) (state : Numbers) (cuts : List Cut) (cut : Cut) (n
       subst (λ xs. weight_of (counts task action) xs ≤ price task action) (sym meant)
       (omega (arith, within action, weight_of-push (counts task action) ms m ∙ ap (λ b. weight_of (counts task action) ms + cond b m.weight 0) (none action)))
 
--- ---- what the cuts are in the end
+-- ---- the cuts in the end
 pub lean_of : (task : TaskMeaning) (cuts : List CutMeaning) → EachUsesUp task cuts → AreLean task cuts
 lean_of task cuts used place cut at = inl (used place cut at)
 

@@ -1,17 +1,17 @@
--- How a set of atoms grows by actions of whose cost little is left.
+-- The growth of a set of atoms by actions of whose cost little is left.
 use Rattle.std.specs.Prelude.{ℕ, ◌≡◌, ◌≤◌, ◌<◌, true, false, List, length, Option, Some, None}
 use Rattle.std.specs.Prelude.{slice_index, ◌⊎◌}
 use Rattle.std.specs.FinSet as set
 use Rattle.task_kit.specs.Tasks.{Numbers, TaskMeaning, AllBelow, action_at, applies}
 
--- the action has at most the limit left, and applies in the set
+-- at most the limit is left of the action's cost, and it applies in the set
 pub record IsUsable (task : TaskMeaning) (left : List ℕ) (limit action : ℕ)
     (among : Numbers) : Type 0 where
   pub listed : action < length task.actions
   pub cheap : slice_index left action ≤ limit
   pub does : applies task action among ≡ true
 
--- the set has what each usable action adds
+-- the set includes the adds of each usable action
 abbrev pub IsClosedUnder : TaskMeaning → List ℕ → ℕ → Numbers → Type 0
 IsClosedUnder task left limit among =
     (action : ℕ) → IsUsable task left limit action among
@@ -25,12 +25,12 @@ pub record IsLoose (task : TaskMeaning) (left : List ℕ) (limit : ℕ) (among :
   pub added : set.contains (action_at task action).add atom ≡ true
   pub outside : set.contains among atom ≡ false
 
--- no atom is loose, or this one is
+-- no atom is loose if there is None, and this atom is loose otherwise
 abbrev pub IsLooseWhere : TaskMeaning → List ℕ → ℕ → Numbers → Option ℕ → Type 0
 IsLooseWhere task left limit among None = IsClosedUnder task left limit among
 IsLooseWhere task left limit among (Some atom) = IsLoose task left limit among atom
 
--- the set grew, by atoms that each closed set has which has the old one
+-- the set grew, by atoms that are in each closed set that includes the old set
 pub record Spreads (task : TaskMeaning) (left : List ℕ) (limit : ℕ)
     (old new : Numbers) : Type 0 where
   pub grows : set.is_subset old new ≡ true

@@ -1,4 +1,4 @@
--- Cuts none of which could weigh more after those before it.
+-- Cuts of which each weighs as much as the cuts before it allow.
 use Rattle.std.specs.Prelude.{ℕ, ◌+◌, ◌≡◌, true, false, List, [], ◌∷◌, ◌++◌, length, take, Some}
 use Rattle.std.specs.Prelude.{slice_get, ◌⊎◌}
 use Rattle.task_kit.specs.Tasks.{TaskMeaning, price}

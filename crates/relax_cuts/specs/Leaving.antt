@@ -1,4 +1,4 @@
--- What cuts leave of the costs of the actions, and the cuts that were found so far.
+-- The costs of the actions that cuts leave, and the cuts found so far.
 use Rattle.std.specs.Prelude.{ℕ, ◌+◌, ◌≡◌, ◌≤◌, ◌<◌, Bool, true, false, ◌&&◌, List, length, take}
 use Rattle.std.specs.Prelude.{Option, Some, None, slice_get, slice_index, All}
 use Rattle.std.specs.FinSet as set
@@ -14,13 +14,13 @@ use Rattle.relax_cuts.specs.Lean.{UsesUp, AreLean}
 abbrev pub is_counted : TaskMeaning → ℕ → Numbers → Bool
 is_counted task action among = applies task action among && adds_outside task action among
 
--- of each action's cost, this is left by the cuts
+-- this is left of each action's cost by the cuts
 pub record Leave (task : TaskMeaning) (cuts : List CutMeaning) (left : List ℕ) : Type 0 where
   pub sized : length left ≡ length task.actions
   pub each : (action : ℕ) → action < length task.actions
       → slice_index left action + weight_of (counts task action) cuts ≡ price task action
 
--- the least that is left of one of the first actions that a cut with this set counts
+-- the least cost left of one of the first actions that a cut with this set counts
 pub record IsLeastLeft (task : TaskMeaning) (actions : ℕ) (left : List ℕ) (among : Numbers)
     (weight : ℕ) : Type 0 where
   pub action : ℕ
@@ -30,19 +30,19 @@ pub record IsLeastLeft (task : TaskMeaning) (actions : ℕ) (left : List ℕ) (a
   pub within : (other : ℕ) → other < actions → is_counted task other among ≡ true
       → weight ≤ slice_index left other
 
--- none of the first actions is counted, or this is the least that is left of one
+-- a cut with this set counts none of the first actions, or this is the least cost left of one
 abbrev pub IsWeight : TaskMeaning → ℕ → List ℕ → Numbers → Option ℕ → Type 0
 IsWeight task actions left among None =
     (action : ℕ) → action < actions → is_counted task action among ≡ false
 IsWeight task actions left among (Some weight) = IsLeastLeft task actions left among weight
 
--- the set has the state, lacks a goal atom, and has only atoms
+-- the set includes the state, lacks a goal atom, and has only atoms
 pub record IsCutSet (task : TaskMeaning) (state among : Numbers) : Type 0 where
   pub has_state : set.is_subset state among ≡ true
   pub lacks_goal : set.is_subset task.goal among ≡ false
   pub below : AllBelow task.atoms among
 
--- the cut weighs something, and lists atoms in ascending order
+-- the weight of the cut is above 0, and it lists atoms in ascending order
 pub record IsFormed (atoms : ℕ) (cut : Cut) : Type 0 where
   pub weight : 0 < cut.weight
   pub ascending : IsStrictlyIncreasing cut.lacks

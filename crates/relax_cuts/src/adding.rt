@@ -1,11 +1,11 @@
-//! Which actions add which atoms.
+//! The adds of all actions, by action and by atom.
 ghost use Rattle.std.specs.Prelude.{◌≡◌, ◌+◌, ◌<◌, length, OnOk};
 
 use mre_base::{Bits, NoMemory};
 use std::alloc::Global;
 use task_kit::TaskView;
 
-/// An action that adds an atom, and the place of the one before that adds the same atom.
+/// An action that adds an atom, and the place of the previous action that adds the same atom.
 #[derive(Clone, Copy)]
 pub struct Add {
     pub action: u32,
@@ -13,10 +13,10 @@ pub struct Add {
     pub before: Option<usize>,
 }
 
-/// What the actions add, one action after another.
+/// The adds of all actions, one action after another.
 pub struct Adding {
     adds: Vec<Add>,
-    // Where the adds of each action end.
+    // The end of each action's adds.
     ends: Vec<usize>,
     // The place of the last action that adds each atom.
     last: Vec<Option<usize>>,
@@ -49,7 +49,7 @@ impl Adding {
         Ok(adding)
     }
 
-    // Lists the adds of an action but for those in the set, which has them all afterwards.
+    // Lists the adds of an action that aren't in the set, and puts them into it.
     fn list<T: TaskView>(
         &mut self,
         task: &T,
@@ -84,7 +84,7 @@ impl Adding {
         Ok(())
     }
 
-    /// What an action adds.
+    /// The adds of an action.
     pub fn of_action(&self, action: u32) -> &[Add] {
         let start = match action.checked_sub(1) {
             None => 0,

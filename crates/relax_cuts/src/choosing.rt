@@ -1,4 +1,4 @@
-//! The set of the next cut.
+//! The choice of the set of the next cut.
 ghost use Rattle.std.specs.Prelude.{◌≡◌, ◌+◌, ◌<◌, length, IsTrue, IfOk};
 ghost use Rattle.std.specs.Option.{ForSome};
 ghost use Rattle.relax_cuts.specs.Choosing.{IsChoice};
@@ -7,10 +7,10 @@ ghost use Rattle.relax_cuts.specs.Leaving.{IsCutSet};
 ghost use Rattle.task_kit.specs.Tasks.{AllBelow};
 
 use crate::adding::Adding;
-use crate::closing::{Reach, spread};
+use crate::closing::{GrowingSet, spread};
 use crate::leaving::least_left;
 use crate::values::values_of;
-use crate::zoning::{Aim, farthest, zone_of};
+use crate::zoning::{GoalAtom, farthest, zone_of};
 use mre_base::{Bits, NoMemory};
 use std::alloc::Global;
 use task_kit::TaskView;
@@ -37,10 +37,9 @@ fn by_closure<T: TaskView>(task: &T, left: &Vec<u64>, state: &Bits, closure: Bit
     }
 }
 
-// The state, and what is to stay outside the set of a cut: the zone of the farthest goal atom.
-// Where that can't be made true at all,
-// nothing is to stay outside.
-fn known_of<T: TaskView>(
+// The atoms that the set of a cut skips: those of the state, and the zone of the farthest goal
+// atom, which is to stay outside. If that goal atom can't be made true at all, there is no zone.
+fn skipped_atoms<T: TaskView>(
     alloc: Global,
     task: &T,
     adding: &Adding,
@@ -51,18 +50,18 @@ fn known_of<T: TaskView>(
     requires sized { length left.now.items ≡ length (T.seen task.now).actions }
     requires state_width { state.now.width ≡ (T.seen task.now).atoms + 1 }
     requires width { closure.now.width ≡ (T.seen task.now).atoms + 1 }
-    ensures { IfOk result (λ known. known.width ≡ (T.seen task.now).atoms + 1) }
+    ensures { IfOk result (λ skipped. skipped.width ≡ (T.seen task.now).atoms + 1) }
 {
     let values = values_of(alloc, task, left, adding, state)?;
-    let mut known = state.copy(alloc)?;
+    let mut skipped = state.copy(alloc)?;
     if let Some(goal) = reachable(farthest(task, closure, &values)) {
         let zone = zone_of(alloc, left, adding, &values, task.atoms() + 1, goal)?;
-        put_all(&mut known, &zone);
+        put_all(&mut skipped, &zone);
     }
-    Ok(known)
+    Ok(skipped)
 }
 
-// What is reached from the state by all actions while nothing of the zone comes in.
+// The atoms that all actions reach from the state while the zone stays outside.
 fn proposed<T: TaskView>(
     alloc: Global,
     task: &T,
@@ -79,19 +78,19 @@ fn proposed<T: TaskView>(
         state.now.members among.members) }
     ensures width { IfOk result (λ among. among.width ≡ (T.seen task.now).atoms + 1) }
 {
-    let known = known_of(alloc, task, adding, left, state, closure)?;
-    let mut reach = Reach {
+    let skipped = skipped_atoms(alloc, task, adding, left, state, closure)?;
+    let mut growing = GrowingSet {
         among: state.copy(alloc)?,
-        known,
+        skipped,
     };
-    spread(alloc, task, left, u64::MAX, &mut reach)?;
-    Ok(reach.among)
+    spread(alloc, task, left, u64::MAX, &mut growing)?;
+    Ok(growing.among)
 }
 
-fn reachable(aim: Option<Aim>) -> Option<u32> {
-    let aim = aim?;
-    let _value = aim.value?;
-    Some(aim.atom)
+fn reachable(goal: Option<GoalAtom>) -> Option<u32> {
+    let goal = goal?;
+    let _value = goal.value?;
+    Some(goal.atom)
 }
 
 fn put_all(bits: &mut Bits, more: &Bits)
@@ -114,8 +113,9 @@ fn is_above_0(least: Option<u64>) -> bool
     }
 }
 
-/// Chooses the set of the next cut of a state, given the closure of the state. The closure is taken
-/// only where the proposed set isn't that of a cut, or has a free way out.
+/// Chooses the set of the next cut of a state, given the closure of the state. The closure is
+/// chosen only if the proposed set isn't the set of a cut, or if an action leads out of it for
+/// nothing.
 pub fn choose<T: TaskView>(
     alloc: Global,
     task: &T,

@@ -1,172 +1,174 @@
-//! The closure of a state: what can be made true by actions of whose cost nothing is left.
+//! The closure of a state: the atoms reached by actions of whose cost nothing is left.
 ghost use Rattle.std.specs.Prelude.{ℕ, ◌≡◌, ◌+◌, ◌≤◌, ◌<◌, true, length, slice_index, IfOk, OnOk};
 ghost use Rattle.std.specs.FinSet as set;
 ghost use Rattle.relax_cuts.specs.Closing.{IsUsable, IsClosedUnder, IsLooseWhere, Spreads};
 ghost use Rattle.relax_cuts.specs.Closing.{AddsSome};
-ghost use Rattle.relax_cuts.specs.WaitingSize.{HasRoom};
+ghost use Rattle.relax_cuts.specs.BlockedSize.{HasRoom};
 ghost use Rattle.task_kit.specs.Tasks.{AllBelow, IsTask, action_at, applies};
 
-use crate::waiting::Waiting;
+use crate::blocked::BlockedActions;
 use mre_base::{Bits, NoMemory};
 use std::alloc::Global;
 use task_kit::TaskView;
 
 /// A set of atoms that grows.
 #[derive(Drop)]
-pub struct Reach {
+pub struct GrowingSet {
     pub among: Bits,
-    /// What is in the set, or is to stay outside.
-    pub known: Bits,
+    /// The atoms that no action puts in any more: those of the set, and those that are to stay
+    /// outside.
+    pub skipped: Bits,
 }
 
-// Puts what an action adds into the set.
+// Puts the adds of an action into the set, except the skipped ones.
 fn put_adds<T: TaskView>(
     task: &T,
     action: u32,
-    reach: &mut Reach,
-    waiting: &mut Waiting,
+    growing: &mut GrowingSet,
+    blocked: &mut BlockedActions,
 ) -> Result<(), NoMemory>
     requires listed { action < length (T.seen task.now).actions }
-    requires among_width { reach.old.among.width ≡ (T.seen task.now).atoms + 1 }
-    requires known_width { reach.old.known.width ≡ (T.seen task.now).atoms + 1 }
+    requires among_width { growing.old.among.width ≡ (T.seen task.now).atoms + 1 }
+    requires skipped_width { growing.old.skipped.width ≡ (T.seen task.now).atoms + 1 }
     requires room { HasRoom ((T.seen task.now).atoms + 1) (length (T.seen task.now).actions)
-        waiting.old }
+        blocked.old }
     ensures adds { OnOk result (AddsSome (action_at (T.seen task.now) action).add
-        reach.old.among.members reach.new.among.members) }
-    ensures among_width { OnOk result (reach.new.among.width ≡ reach.old.among.width) }
-    ensures known_width { OnOk result (reach.new.known.width ≡ reach.old.known.width) }
+        growing.old.among.members growing.new.among.members) }
+    ensures among_width { OnOk result (growing.new.among.width ≡ growing.old.among.width) }
+    ensures skipped_width { OnOk result (growing.new.skipped.width ≡ growing.old.skipped.width) }
     ensures room { OnOk result
-        (HasRoom ((T.seen task.now).atoms + 1) (length (T.seen task.now).actions) waiting.new) }
+        (HasRoom ((T.seen task.now).atoms + 1) (length (T.seen task.now).actions) blocked.new) }
 {
     for _ in 0..task.atoms() {
-        let Some(atom) = task.outside(action, &reach.known) else {
+        let Some(atom) = task.outside(action, &growing.skipped) else {
             break;
         };
-        reach.known.put(atom);
-        reach.among.put(atom);
-        waiting.wake(atom)?;
+        growing.skipped.put(atom);
+        growing.among.put(atom);
+        blocked.release(atom)?;
     }
     Ok(())
 }
 
-// Puts what an action adds into the set, if the action is usable; else it waits for its least missing
-// precondition.
-fn look_at<T: TaskView>(
+// Expands an action: puts its adds into the set if it is usable, and otherwise blocks it by its
+// least missing precondition.
+fn expand<T: TaskView>(
     task: &T,
     left: &Vec<u64>,
     limit: u64,
     action: u32,
-    reach: &mut Reach,
-    waiting: &mut Waiting,
+    growing: &mut GrowingSet,
+    blocked: &mut BlockedActions,
 ) -> Result<(), NoMemory>
     requires task { IsTask (T.seen task.now) }
     requires listed { action < length (T.seen task.now).actions }
     requires sized { length left.now.items ≡ length (T.seen task.now).actions }
-    requires among_width { reach.old.among.width ≡ (T.seen task.now).atoms + 1 }
-    requires known_width { reach.old.known.width ≡ (T.seen task.now).atoms + 1 }
+    requires among_width { growing.old.among.width ≡ (T.seen task.now).atoms + 1 }
+    requires skipped_width { growing.old.skipped.width ≡ (T.seen task.now).atoms + 1 }
     requires room { HasRoom ((T.seen task.now).atoms + 1) (length (T.seen task.now).actions)
-        waiting.old }
+        blocked.old }
     ensures spreads { OnOk result (Spreads (T.seen task.now) left.now.items limit
-        reach.old.among.members reach.new.among.members) }
-    ensures among_width { OnOk result (reach.new.among.width ≡ reach.old.among.width) }
-    ensures known_width { OnOk result (reach.new.known.width ≡ reach.old.known.width) }
+        growing.old.among.members growing.new.among.members) }
+    ensures among_width { OnOk result (growing.new.among.width ≡ growing.old.among.width) }
+    ensures skipped_width { OnOk result (growing.new.skipped.width ≡ growing.old.skipped.width) }
     ensures room { OnOk result
-        (HasRoom ((T.seen task.now).atoms + 1) (length (T.seen task.now).actions) waiting.new) }
+        (HasRoom ((T.seen task.now).atoms + 1) (length (T.seen task.now).actions) blocked.new) }
 {
     if limit < left[action as usize] {
         return Ok(());
     }
-    if task.applies(action, &reach.among) {
-        put_adds(task, action, reach, waiting)?;
+    if task.applies(action, &growing.among) {
+        put_adds(task, action, growing, blocked)?;
         return Ok(());
     }
-    match task.missing(action, &reach.among) {
+    match task.missing(action, &growing.among) {
         None => Ok(()),
         Some(atom) => {
-            waiting.wait(action, atom);
+            blocked.block(action, atom);
             Ok(())
         }
     }
 }
 
-fn look_at_all<T: TaskView>(
+fn expand_all<T: TaskView>(
     task: &T,
     left: &Vec<u64>,
     limit: u64,
-    reach: &mut Reach,
-    waiting: &mut Waiting,
+    growing: &mut GrowingSet,
+    blocked: &mut BlockedActions,
 ) -> Result<(), NoMemory>
     requires task { IsTask (T.seen task.now) }
     requires sized { length left.now.items ≡ length (T.seen task.now).actions }
-    requires among_width { reach.old.among.width ≡ (T.seen task.now).atoms + 1 }
-    requires known_width { reach.old.known.width ≡ (T.seen task.now).atoms + 1 }
+    requires among_width { growing.old.among.width ≡ (T.seen task.now).atoms + 1 }
+    requires skipped_width { growing.old.skipped.width ≡ (T.seen task.now).atoms + 1 }
     requires room { HasRoom ((T.seen task.now).atoms + 1) (length (T.seen task.now).actions)
-        waiting.old }
+        blocked.old }
     ensures spreads { OnOk result (Spreads (T.seen task.now) left.now.items limit
-        reach.old.among.members reach.new.among.members) }
-    ensures among_width { OnOk result (reach.new.among.width ≡ reach.old.among.width) }
-    ensures known_width { OnOk result (reach.new.known.width ≡ reach.old.known.width) }
+        growing.old.among.members growing.new.among.members) }
+    ensures among_width { OnOk result (growing.new.among.width ≡ growing.old.among.width) }
+    ensures skipped_width { OnOk result (growing.new.skipped.width ≡ growing.old.skipped.width) }
     ensures room { OnOk result
-        (HasRoom ((T.seen task.now).atoms + 1) (length (T.seen task.now).actions) waiting.new) }
+        (HasRoom ((T.seen task.now).atoms + 1) (length (T.seen task.now).actions) blocked.new) }
 {
     for action in 0..task.actions() {
-        look_at(task, left, limit, action, reach, waiting)?;
+        expand(task, left, limit, action, growing, blocked)?;
     }
     Ok(())
 }
 
-fn look_at_ready<T: TaskView>(
+fn expand_ready<T: TaskView>(
     task: &T,
     left: &Vec<u64>,
     limit: u64,
-    reach: &mut Reach,
-    waiting: &mut Waiting,
+    growing: &mut GrowingSet,
+    blocked: &mut BlockedActions,
 ) -> Result<(), NoMemory>
     requires task { IsTask (T.seen task.now) }
     requires sized { length left.now.items ≡ length (T.seen task.now).actions }
-    requires among_width { reach.old.among.width ≡ (T.seen task.now).atoms + 1 }
-    requires known_width { reach.old.known.width ≡ (T.seen task.now).atoms + 1 }
+    requires among_width { growing.old.among.width ≡ (T.seen task.now).atoms + 1 }
+    requires skipped_width { growing.old.skipped.width ≡ (T.seen task.now).atoms + 1 }
     requires room { HasRoom ((T.seen task.now).atoms + 1) (length (T.seen task.now).actions)
-        waiting.old }
+        blocked.old }
     ensures spreads { OnOk result (Spreads (T.seen task.now) left.now.items limit
-        reach.old.among.members reach.new.among.members) }
-    ensures among_width { OnOk result (reach.new.among.width ≡ reach.old.among.width) }
-    ensures known_width { OnOk result (reach.new.known.width ≡ reach.old.known.width) }
+        growing.old.among.members growing.new.among.members) }
+    ensures among_width { OnOk result (growing.new.among.width ≡ growing.old.among.width) }
+    ensures skipped_width { OnOk result (growing.new.skipped.width ≡ growing.old.skipped.width) }
 {
-    // Each look but the first at an action follows an atom that came in.
+    // After its first expansion an action is expanded again only when an atom that blocked it is
+    // reached.
     for _ in 0..u64::MAX {
-        let Some(action) = waiting.next() else {
+        let Some(action) = blocked.next() else {
             break;
         };
-        look_at(task, left, limit, action, reach, waiting)?;
+        expand(task, left, limit, action, growing, blocked)?;
     }
     Ok(())
 }
 
-/// Lets a set grow by what actions add of whose cost at most `limit` is left, but for what is to
-/// stay outside.
+/// Lets a set grow by the adds of the actions of whose cost at most `limit` is left, except the
+/// atoms that are to stay outside.
 pub fn spread<T: TaskView>(
     alloc: Global,
     task: &T,
     left: &Vec<u64>,
     limit: u64,
-    reach: &mut Reach,
+    growing: &mut GrowingSet,
 ) -> Result<(), NoMemory>
     requires sized { length left.now.items ≡ length (T.seen task.now).actions }
-    requires among_width { reach.old.among.width ≡ (T.seen task.now).atoms + 1 }
-    requires known_width { reach.old.known.width ≡ (T.seen task.now).atoms + 1 }
+    requires among_width { growing.old.among.width ≡ (T.seen task.now).atoms + 1 }
+    requires skipped_width { growing.old.skipped.width ≡ (T.seen task.now).atoms + 1 }
     ensures spreads { OnOk result (Spreads (T.seen task.now) left.now.items limit
-        reach.old.among.members reach.new.among.members) }
-    ensures among_width { OnOk result (reach.new.among.width ≡ reach.old.among.width) }
-    ensures known_width { OnOk result (reach.new.known.width ≡ reach.old.known.width) }
+        growing.old.among.members growing.new.among.members) }
+    ensures among_width { OnOk result (growing.new.among.width ≡ growing.old.among.width) }
+    ensures skipped_width { OnOk result (growing.new.skipped.width ≡ growing.old.skipped.width) }
 {
-    let mut waiting = Waiting::empty(alloc, task.atoms() + 1, task.actions())?;
-    look_at_all(task, left, limit, reach, &mut waiting)?;
-    look_at_ready(task, left, limit, reach, &mut waiting)?;
+    let mut blocked = BlockedActions::empty(alloc, task.atoms() + 1, task.actions())?;
+    expand_all(task, left, limit, growing, &mut blocked)?;
+    expand_ready(task, left, limit, growing, &mut blocked)?;
     Ok(())
 }
 
-// An atom that isn't in the set and that a usable action adds of whose cost nothing is left.
+// An atom outside the set, added by a usable action of whose cost nothing is left.
 fn loose_atom<T: TaskView>(task: &T, left: &Vec<u64>, among: &Bits) -> Option<u32>
     requires sized { length left.now.items ≡ length (T.seen task.now).actions }
     requires width { among.now.width ≡ (T.seen task.now).atoms + 1 }
@@ -182,7 +184,7 @@ fn loose_atom<T: TaskView>(task: &T, left: &Vec<u64>, among: &Bits) -> Option<u3
     None
 }
 
-// Puts in what a set lacks to be closed. After `spread` that is nothing.
+// Puts in the atoms that a set lacks to be closed. After `spread` it lacks nothing.
 fn settle<T: TaskView>(task: &T, left: &Vec<u64>, among: &mut Bits)
     requires task { IsTask (T.seen task.now) }
     requires sized { length left.now.items ≡ length (T.seen task.now).actions }
@@ -197,7 +199,8 @@ fn settle<T: TaskView>(task: &T, left: &Vec<u64>, among: &mut Bits)
     }
 }
 
-/// The least set that has the state and is closed under the actions of whose cost nothing is left.
+/// The least set that includes the state and is closed under the actions of whose cost nothing is
+/// left.
 pub fn close<T: TaskView>(
     alloc: Global,
     task: &T,
@@ -212,12 +215,12 @@ pub fn close<T: TaskView>(
         closure.members) }
     ensures width { IfOk result (λ closure. closure.width ≡ state.now.width) }
 {
-    let mut reach = Reach {
+    let mut growing = GrowingSet {
         among: state.copy(alloc)?,
-        known: state.copy(alloc)?,
+        skipped: state.copy(alloc)?,
     };
-    spread(alloc, task, left, 0, &mut reach)?;
-    let mut closure = reach.among;
+    spread(alloc, task, left, 0, &mut growing)?;
+    let mut closure = growing.among;
     let _atoms = task.atoms();
     settle(task, left, &mut closure);
     Ok(closure)

@@ -22,10 +22,9 @@ use task_kit::{Cut, Cuts, TaskView};
 const MOST: u64 = 70368744177663;
 
 /// Landmark cuts of a state, after Helmert and Domshlak, "Landmarks, Critical Paths and
-/// Abstractions: What's the Difference Anyway?"
-/// (ICAPS 2009). The list is empty where the goal atoms can be made true at no cost while nothing
-/// is deleted. A last cut that counts no
-/// action has the greatest weight: no list leads from the state to the goal.
+/// Abstractions: What's the Difference Anyway?" (ICAPS 2009). The list is empty if the goal atoms
+/// can be made true at no cost while nothing is deleted. A last cut that counts no action has the
+/// greatest weight, since no list leads from the state to the goal.
 pub fn cuts_for<T: TaskView>(alloc: Global, task: &T, state: &Bits) -> Result<Cuts, NoMemory>
     requires width { state.now.width ≡ (T.seen task.now).atoms + 1 }
     requires below { AllBelow (T.seen task.now).atoms state.now.members }
@@ -44,7 +43,7 @@ pub fn cuts_for<T: TaskView>(alloc: Global, task: &T, state: &Bits) -> Result<Cu
     Ok(cuts)
 }
 
-// The same, with all that holds of the cuts in one.
+// As `cuts_for`, with one clause for all that holds of the cuts.
 fn found_cuts<T: TaskView>(alloc: Global, task: &T, state: &Bits) -> Result<Cuts, NoMemory>
     requires width { state.now.width ≡ (T.seen task.now).atoms + 1 }
     requires below { AllBelow (T.seen task.now).atoms state.now.members }

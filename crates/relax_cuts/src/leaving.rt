@@ -1,4 +1,4 @@
-//! What is left of the costs of actions.
+//! The costs of actions that cuts leave.
 ghost use Rattle.std.specs.Prelude.{ℕ, ◌≡◌, ◌+◌, ◌≤◌, ◌<◌, true, cond, length, slice_index, IfOk};
 ghost use Rattle.relax_cuts.specs.Leaving.{is_counted, IsWeight};
 ghost use Rattle.task_kit.specs.Atoms.{lesser_of};
@@ -8,7 +8,7 @@ use mre_base::{Bits, NoMemory};
 use std::alloc::Global;
 use task_kit::{TaskView, price_of};
 
-/// The cost of each action, or 0 where it has none.
+/// The cost of each action, or 0 if it has none.
 pub fn prices<T: TaskView>(alloc: Global, task: &T) -> Result<Vec<u64>, NoMemory>
     ensures sized { IfOk result (λ left. length left.items ≡ length (T.seen task.now).actions) }
     ensures each { IfOk result (λ left. (action : ℕ) → action < length (T.seen task.now).actions →
@@ -39,7 +39,7 @@ fn lesser(least: Option<u64>, left: u64) -> u64
     }
 }
 
-/// The least that is left of an action that a cut with this set counts.
+/// The least cost left of an action that a cut with this set counts.
 pub fn least_left<T: TaskView>(task: &T, left: &Vec<u64>, among: &Bits) -> Option<u64>
     requires sized { length left.now.items ≡ length (T.seen task.now).actions }
     requires width { among.now.width ≡ (T.seen task.now).atoms + 1 }
@@ -55,7 +55,7 @@ pub fn least_left<T: TaskView>(task: &T, left: &Vec<u64>, among: &Bits) -> Optio
     least
 }
 
-/// Takes a weight from what is left of each action that a cut with this set counts.
+/// Takes a weight from the cost left of each action that a cut with this set counts.
 pub fn charge<T: TaskView>(task: &T, weight: u64, among: &Bits, left: &mut Vec<u64>)
     requires sized { length left.old.items ≡ length (T.seen task.now).actions }
     requires width { among.now.width ≡ (T.seen task.now).atoms + 1 }
@@ -63,7 +63,8 @@ pub fn charge<T: TaskView>(task: &T, weight: u64, among: &Bits, left: &mut Vec<u
         is_counted (T.seen task.now) action among.now.members ≡ true
         → weight ≤ slice_index left.old.items action }
     ensures each { (action : ℕ) → action < length (T.seen task.now).actions →
-        slice_index left.new.items action + cond (is_counted (T.seen task.now) action among.now.members) weight 0
+        slice_index left.new.items action
+        + cond (is_counted (T.seen task.now) action among.now.members) weight 0
         ≡ slice_index left.old.items action }
     ensures sized { length left.new.items ≡ length left.old.items }
 {

@@ -1,24 +1,23 @@
-//! The values of atoms by the heuristic h_max: what it costs at least to make an atom true, where
-//! an action costs as much as the dearest of
-//! its preconditions and what is left of its own cost.
+//! The values of atoms by the heuristic h_max: the least cost of making an atom true, where an
+//! action costs as much as the dearest of its preconditions and what is left of its own cost.
 ghost use Rattle.std.specs.Prelude.{◌≡◌, ◌+◌, ◌<◌, length, OnOk};
-ghost use Rattle.relax_cuts.specs.Fronts.{IsFront};
+ghost use Rattle.relax_cuts.specs.Settlings.{IsSettling};
 ghost use Rattle.task_kit.specs.Tasks.{IsTask};
 
 use crate::adding::Adding;
-use crate::waiting::Waiting;
+use crate::blocked::BlockedActions;
 use mre_base::{Bits, NoMemory};
 use std::alloc::Global;
 use std::cmp::Reverse;
 use std::collections::BinaryHeap;
 use task_kit::TaskView;
 
-/// The value of each atom that can be made true, and of each action that can be made applicable the
-/// precondition of the greatest value.
+/// The value of each atom that can be made true, and the precondition of the greatest value of each
+/// action that can be made applicable.
 pub struct Values {
     of_atoms: Vec<Option<u64>>,
     supporters: Vec<Option<u32>>,
-    // Atoms that have a value, which is the least one where the atom comes out first.
+    // Atoms with values. The value with which an atom comes out first is its least.
     queue: BinaryHeap<Reverse<(u64, u32)>>,
 }
 
@@ -41,12 +40,12 @@ impl Values {
         })
     }
 
-    /// The value of an atom, or none where nothing can make it true.
+    /// The value of an atom, or `None` if nothing can make it true.
     pub fn of_atom(&self, atom: u32) -> Option<u64> {
         self.of_atoms.get(atom as usize).copied().unwrap_or(None)
     }
 
-    /// The precondition of an action with the greatest value, where that value is above 0.
+    /// The precondition of an action with the greatest value, if that value is above 0.
     pub fn supporter(&self, action: u32) -> Option<u32> {
         self.supporters
             .get(action as usize)
@@ -64,7 +63,7 @@ impl Values {
         Ok(())
     }
 
-    // An action has become applicable: gives what it adds a value.
+    // Gives the adds of an action that has become applicable a value.
     fn lower_adds(&mut self, adding: &Adding, action: u32, value: u64) -> Result<(), NoMemory> {
         for add in adding.of_action(action) {
             self.lower(add.atom, value)?;
@@ -91,93 +90,94 @@ fn is_above(known: Option<u64>, value: u64) -> bool {
     }
 }
 
-// The atom that came in last, if there is one, and its value.
+// The atom that was settled last, if there is one, and its value.
 #[derive(Clone, Copy)]
-struct Came {
+struct LastSettled {
     atom: Option<u32>,
     value: u64,
 }
 
-// The atoms whose values are settled, the actions that wait for others, and the values.
+// The computation of the values so far: the atoms whose values are settled, the blocked actions,
+// and the values.
 #[derive(Drop)]
-pub struct Front {
+pub struct Settling {
     settled: Bits,
-    waiting: Waiting,
+    blocked: BlockedActions,
     values: Values,
 }
 
-// Expands an action after an atom came in: lowers the values of what it adds, if it is applicable now;
-// else it waits. As atoms come in by their values, the last precondition to come in is that with the
-// greatest value.
-fn look_at<T: TaskView>(
+// Expands an action after an atom was settled: lowers the values of its adds if it is applicable
+// now, and otherwise blocks it. Atoms are settled in the order of their values, so the precondition
+// that is settled last has the greatest value.
+fn expand<T: TaskView>(
     task: &T,
     left: &Vec<u64>,
     adding: &Adding,
     action: u32,
-    came: Came,
-    front: &mut Front,
+    latest: LastSettled,
+    settling: &mut Settling,
 ) -> Result<(), NoMemory>
     requires task { IsTask (T.seen task.now) }
     requires listed { action < length (T.seen task.now).actions }
     requires sized { length left.now.items ≡ length (T.seen task.now).actions }
-    requires front { IsFront (T.seen task.now) front.old }
-    ensures { OnOk result (IsFront (T.seen task.now) front.new) }
+    requires settling { IsSettling (T.seen task.now) settling.old }
+    ensures { OnOk result (IsSettling (T.seen task.now) settling.new) }
 {
-    if task.applies(action, &front.settled) {
-        front.values.support(action, came.atom);
-        let value = came.value.saturating_add(left[action as usize]);
-        front.values.lower_adds(adding, action, value)?;
+    if task.applies(action, &settling.settled) {
+        settling.values.support(action, latest.atom);
+        let value = latest.value.saturating_add(left[action as usize]);
+        settling.values.lower_adds(adding, action, value)?;
         return Ok(());
     }
-    match task.missing(action, &front.settled) {
+    match task.missing(action, &settling.settled) {
         None => Ok(()),
         Some(atom) => {
-            front.waiting.wait(action, atom);
+            settling.blocked.block(action, atom);
             Ok(())
         }
     }
 }
 
-// Looks at each action before any atom but those of the state came in.
-fn look_at_all<T: TaskView>(
+// Expands each action when only the atoms of the state are settled.
+fn expand_all<T: TaskView>(
     task: &T,
     left: &Vec<u64>,
     adding: &Adding,
-    front: &mut Front,
+    settling: &mut Settling,
 ) -> Result<(), NoMemory>
     requires task { IsTask (T.seen task.now) }
     requires sized { length left.now.items ≡ length (T.seen task.now).actions }
-    requires front { IsFront (T.seen task.now) front.old }
-    ensures { OnOk result (IsFront (T.seen task.now) front.new) }
+    requires settling { IsSettling (T.seen task.now) settling.old }
+    ensures { OnOk result (IsSettling (T.seen task.now) settling.new) }
 {
-    let came = Came {
+    let latest = LastSettled {
         atom: None,
         value: 0,
     };
     for action in 0..task.actions() {
-        look_at(task, left, adding, action, came, front)?;
+        expand(task, left, adding, action, latest, settling)?;
     }
     Ok(())
 }
 
-// Looks at each action that waited for an atom.
-fn look_after<T: TaskView>(
+// Expands each action that the settled atom blocked.
+fn expand_ready<T: TaskView>(
     task: &T,
     left: &Vec<u64>,
     adding: &Adding,
-    came: Came,
-    front: &mut Front,
+    latest: LastSettled,
+    settling: &mut Settling,
 ) -> Result<(), NoMemory>
     requires task { IsTask (T.seen task.now) }
     requires sized { length left.now.items ≡ length (T.seen task.now).actions }
-    requires front { IsFront (T.seen task.now) front.old }
-    ensures { OnOk result (IsFront (T.seen task.now) front.new) }
+    requires settling { IsSettling (T.seen task.now) settling.old }
+    ensures { OnOk result (IsSettling (T.seen task.now) settling.new) }
 {
     for _ in 0..task.actions() {
-        let Some(action) = front.waiting.next() else {
+        let Some(action) = settling.blocked.next() else {
             break;
         };
-        look_at(task, left, adding, action, came, front)?;
+        expand(task, left, adding, action, latest, settling)?;
     }
     Ok(())
 }
@@ -187,32 +187,31 @@ fn settle_all<T: TaskView>(
     task: &T,
     left: &Vec<u64>,
     adding: &Adding,
-    front: &mut Front,
+    settling: &mut Settling,
 ) -> Result<(), NoMemory>
     requires task { IsTask (T.seen task.now) }
     requires sized { length left.now.items ≡ length (T.seen task.now).actions }
-    requires front { IsFront (T.seen task.now) front.old }
+    requires settling { IsSettling (T.seen task.now) settling.old }
 {
     for _ in 0..u64::MAX {
-        let Some((value, atom)) = front.values.next() else {
+        let Some((value, atom)) = settling.values.next() else {
             break;
         };
-        if atom < task.atoms() && !front.settled.contains(atom) {
-            front.settled.put(atom);
-            front.waiting.wake(atom)?;
-            let came = Came {
+        if atom < task.atoms() && !settling.settled.contains(atom) {
+            settling.settled.put(atom);
+            settling.blocked.release(atom)?;
+            let latest = LastSettled {
                 atom: Some(atom),
                 value,
             };
-            look_after(task, left, adding, came, front)?;
+            expand_ready(task, left, adding, latest, settling)?;
         }
     }
     Ok(())
 }
 
-/// The values where the atoms of a state have the value 0, after Bonet and Geffner, "Planning as
-/// Heuristic Search" (2001), by the algorithm
-/// of Dijkstra.
+/// The values of atoms, where the atoms of a state have the value 0, after Bonet and Geffner,
+/// "Planning as Heuristic Search" (2001), by Dijkstra's algorithm.
 pub fn values_of<T: TaskView>(
     alloc: Global,
     task: &T,
@@ -223,12 +222,12 @@ pub fn values_of<T: TaskView>(
     requires sized { length left.now.items ≡ length (T.seen task.now).actions }
     requires width { state.now.width ≡ (T.seen task.now).atoms + 1 }
 {
-    let mut front = Front {
+    let mut settling = Settling {
         settled: state.copy(alloc)?,
-        waiting: Waiting::empty(alloc, task.atoms() + 1, task.actions())?,
+        blocked: BlockedActions::empty(alloc, task.atoms() + 1, task.actions())?,
         values: Values::empty(alloc, task.atoms(), task.actions())?,
     };
-    look_at_all(task, left, adding, &mut front)?;
-    settle_all(task, left, adding, &mut front)?;
-    Ok(front.values)
+    expand_all(task, left, adding, &mut settling)?;
+    settle_all(task, left, adding, &mut settling)?;
+    Ok(settling.values)
 }

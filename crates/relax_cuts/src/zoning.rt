@@ -1,4 +1,4 @@
-//! The goal zone: atoms that are as hard to make true as a goal atom, once nothing more is paid.
+//! The goal zone: atoms that are as hard to make true as a goal atom, if nothing more is paid.
 ghost use Rattle.std.specs.Prelude.{◌≡◌, ◌+◌, length, IfOk, OnOk};
 
 use crate::adding::{Add, Adding};
@@ -7,46 +7,46 @@ use mre_base::{Bits, NoMemory};
 use std::alloc::Global;
 use task_kit::TaskView;
 
-/// A goal atom, and its value where it can be made true.
+/// A goal atom, and its value if it can be made true.
 #[derive(Clone, Copy)]
-pub struct Aim {
+pub struct GoalAtom {
     pub atom: u32,
     pub value: Option<u64>,
 }
 
-/// The goal atom outside the closure with the greatest value. What can't be made true is above
-/// every value.
-pub fn farthest<T: TaskView>(task: &T, closure: &Bits, values: &Values) -> Option<Aim>
+/// The goal atom outside the closure with the greatest value. An atom that can't be made true is
+/// above every value.
+pub fn farthest<T: TaskView>(task: &T, closure: &Bits, values: &Values) -> Option<GoalAtom>
     requires { closure.now.width ≡ (T.seen task.now).atoms + 1 }
 {
-    let mut aim: Option<Aim> = None;
+    let mut goal: Option<GoalAtom> = None;
     for atom in 0..task.goal().width() {
         if task.goal().contains(atom) && !closure.contains(atom) {
             let value = values.of_atom(atom);
-            if is_farther(value, aim) {
-                aim = Some(Aim { atom, value });
+            if is_farther(value, goal) {
+                goal = Some(GoalAtom { atom, value });
             }
         }
     }
-    aim
+    goal
 }
 
-fn is_farther(value: Option<u64>, aim: Option<Aim>) -> bool {
-    match (value, aim) {
+fn is_farther(value: Option<u64>, goal: Option<GoalAtom>) -> bool {
+    match (value, goal) {
         (_, None) => true,
-        (None, Some(aim)) => aim.value.is_some(),
-        (Some(value), Some(aim)) => match aim.value {
+        (None, Some(goal)) => goal.value.is_some(),
+        (Some(value), Some(goal)) => match goal.value {
             None => false,
             Some(other) => other < value,
         },
     }
 }
 
-// The atoms of the zone, and those whose adders were not yet looked at.
+// The atoms of the zone, and those of them whose adders are still to be visited.
 #[derive(Drop)]
 struct Zone {
     atoms: Bits,
-    waiting: Vec<u32>,
+    open_atoms: Vec<u32>,
 }
 
 fn enter(zone: &mut Zone, atom: u32) -> Result<(), NoMemory>
@@ -54,12 +54,12 @@ fn enter(zone: &mut Zone, atom: u32) -> Result<(), NoMemory>
 {
     if atom < zone.atoms.width() && !zone.atoms.contains(atom) {
         zone.atoms.put(atom);
-        zone.waiting.push(atom)?;
+        zone.open_atoms.push(atom)?;
     }
     Ok(())
 }
 
-// Puts the supporter of each action in that adds the atom and of whose cost nothing is left.
+// Puts in the supporter of each action that adds the atom and of whose cost nothing is left.
 fn enter_supporters(
     left: &Vec<u64>,
     adding: &Adding,
@@ -106,12 +106,12 @@ pub fn zone_of(
 {
     let mut zone = Zone {
         atoms: Bits::empty(alloc, width)?,
-        waiting: Vec::new(alloc),
+        open_atoms: Vec::new(alloc),
     };
     enter(&mut zone, goal)?;
     // Each atom enters once.
     for _ in 0..width {
-        let Some(atom) = zone.waiting.pop() else {
+        let Some(atom) = zone.open_atoms.pop() else {
             break;
         };
         enter_supporters(left, adding, values, &mut zone, atom)?;

@@ -5,14 +5,14 @@ use Rattle.relax_cuts.proofs.closing.put_adds.Goals as goal
 
 pub loop-init : goal.loop-init
 loop-init g c =
-    record { adds = adds_none (action_at (g.T.TaskView.seen c.args.task.now) c.args.action).add c.args.reach.now.among.members; among = refl; known = refl; room = c.requires.room }
+    record { adds = adds_none (action_at (g.T.TaskView.seen c.args.task.now) c.args.action).add c.args.growing.now.among.members; among = refl; skipped = refl; room = c.requires.room }
 
 pub loop-preserved : goal.loop-preserved
 loop-preserved g c =
     record {
-      adds = adds_more (action_at (g.T.TaskView.seen c.args.task.now) c.args.action).add c.args.reach.now.among.members c.loop.reach.among.members c.put-in-loop.new.self.members c.in-Some.atom
+      adds = adds_more (action_at (g.T.TaskView.seen c.args.task.now) c.args.action).add c.args.growing.now.among.members c.loop.growing.among.members c.put-in-loop.new.self.members c.in-Some.atom
           c.loop.invariant.adds c.in-Some.ensures.is_wanted (ap (λ b. b.members) c.put-in-loop.ensures);
       among = ap (λ b. b.width) c.put-in-loop.ensures ∙ c.loop.invariant.among;
-      known = ap (λ b. b.width) c.put.ensures ∙ c.loop.invariant.known;
-      room = record { lists = c.in_ok-wake.ensures.lists ∙ c.loop.invariant.room.lists; places = c.in_ok-wake.ensures.places ∙ c.loop.invariant.room.places };
+      skipped = ap (λ b. b.width) c.put.ensures ∙ c.loop.invariant.skipped;
+      room = record { lists = c.in_ok-release.ensures.lists ∙ c.loop.invariant.room.lists; places = c.in_ok-release.ensures.places ∙ c.loop.invariant.room.places };
     }

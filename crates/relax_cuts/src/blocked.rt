@@ -1,17 +1,17 @@
-//! Actions that wait for an atom, so that each is tried again only after one of its preconditions has
-//! come in.
+//! Blocked actions: each waits for one missing precondition and is expanded again only when that
+//! atom is reached.
 ghost use Rattle.std.specs.Prelude.{◌<◌, length, All, IfOk, IfSome, OnOk};
-ghost use Rattle.relax_cuts.specs.Waiting.{IsBelow, AreBelow};
+ghost use Rattle.relax_cuts.specs.Blocked.{IsBelow, AreBelow};
 
 use mre_base::NoMemory;
 use std::alloc::Global;
 
-/// For each atom, the actions that wait for it, and the actions that are ready. An action waits for one
-/// atom at a time.
-pub struct Waiting {
-    // The last action that began to wait for an atom.
+/// The actions blocked by each atom, as linked lists, and the actions that are ready. An action is
+/// blocked by one atom at a time.
+pub struct BlockedActions {
+    // The action that each atom blocked last.
     last: Vec<Option<u32>>,
-    // The action that began to wait for the same atom before.
+    // The action that the same atom blocked before.
     before: Vec<Option<u32>>,
     ready: Vec<u32>,
     ghost last_listed: { AreBelow (length before.items) last.items },
@@ -19,9 +19,9 @@ pub struct Waiting {
     ghost ready_listed: { All (λ action. action < length before.items) ready.items },
 }
 
-impl Drop for Waiting {
+impl Drop for BlockedActions {
     fn drop(self) {
-        let Waiting {
+        let BlockedActions {
             last: _,
             before: _,
             ready: _,
@@ -29,22 +29,22 @@ impl Drop for Waiting {
     }
 }
 
-impl Waiting {
-    ghost use Rattle.relax_cuts.specs.WaitingSize.{HasRoom, IsAsLarge};
+impl BlockedActions {
+    ghost use Rattle.relax_cuts.specs.BlockedSize.{HasRoom, IsAsLarge};
 
-    /// Room for this number of atoms and actions, none of which waits.
-    pub fn empty(alloc: Global, atoms: u32, actions: u32) -> Result<Waiting, NoMemory>
+    /// Room for this number of atoms and actions, with no action blocked.
+    pub fn empty(alloc: Global, atoms: u32, actions: u32) -> Result<BlockedActions, NoMemory>
         ensures { IfOk result (λ made. HasRoom atoms actions made) }
     {
-        Ok(Waiting {
+        Ok(BlockedActions {
             last: Vec::from_elem(alloc, None, atoms as usize)?,
             before: Vec::from_elem(alloc, None, actions as usize)?,
             ready: Vec::new(alloc),
         })
     }
 
-    /// From now on the action waits for the atom.
-    pub fn wait(&mut self, action: u32, atom: u32)
+    /// From now on the atom blocks the action.
+    pub fn block(&mut self, action: u32, atom: u32)
         requires atom { atom < length self.old.last.items }
         requires action { action < length self.old.before.items }
         ensures { IsAsLarge self.old self.new }
@@ -53,8 +53,8 @@ impl Waiting {
         self.last[atom as usize] = Some(action);
     }
 
-    /// Nothing waits for the atom any more.
-    pub fn wake(&mut self, atom: u32) -> Result<(), NoMemory>
+    /// Makes ready all actions that the atom blocks.
+    pub fn release(&mut self, atom: u32) -> Result<(), NoMemory>
         requires { atom < length self.old.last.items }
         ensures { OnOk result (IsAsLarge self.old self.new) }
     {
@@ -68,7 +68,7 @@ impl Waiting {
         Ok(())
     }
 
-    /// A ready action that wasn't tried yet.
+    /// Takes a ready action.
     pub fn next(&mut self) -> Option<u32>
         ensures listed { IfSome result (λ action. action < length self.old.before.items) }
         ensures room { IsAsLarge self.old self.new }

@@ -1,6 +1,6 @@
 use Rattle.std.proofs.Common.{◌≡◌, length}
-use Rattle.relax_cuts.specs.Waiting.{IsBelow}
-use Rattle.relax_cuts.proofs.waiting.Waiting.wake.Given as goal
+use Rattle.relax_cuts.specs.Blocked.{IsBelow}
+use Rattle.relax_cuts.proofs.blocked.BlockedActions.release.Given as goal
 
 abbrev pub invariant-loop : goal.invariant-loop
 invariant-loop l =
