@@ -1,4 +1,4 @@
--- The lines of an explanation hold the text that the definitions of explanations give for two models.
+-- The lines of an explanation are the text that the definitions give for two models.
 use Rattle.std.proofs.Common.{◌≡◌, ℕ, ◌-◌, Option, None, Some, List, [], ◌∷◌, ◌++◌, length, map, append_assoc, refl, sym, ap, ◌∙◌}
 use Rattle.std.specs.Prelude.{codes, decimal, slice_get, flat_map}
 use Rattle.std.specs.Option.{option_map_or, option_map}
@@ -21,7 +21,7 @@ use Rattle.feature_diff.specs.Differing.{Says, place_of}
 use Rattle.explain_text.specs.Lines.{kind_name, sentence_of, numbered_line, list_lines, lines_of}
 use Rattle.explain_text.specs.Laws.{AreOf, text_in}
 
--- the sentence by what stands in the models is that of the difference
+-- the sentence of a place's contents is that of the difference
 sentence_is : (words : Vocabulary) (planner user : Meaning) (difference : Difference) → Says planner user difference
     → sentence_of words difference ≡ sentence words (planner (place_of difference)) (user (place_of difference)) (place_of difference)
 sentence_is words planner user difference says = λ i. sentence words (sym says.planner_has i) (sym says.user_has i) (place_of difference)
@@ -44,14 +44,14 @@ module _ (task : Task) (differences : List Difference) (are : AreOf task differe
   each_line [] = refl
   each_line (n ∷ told) = λ i. line_is n i ++ each_line told i
 
-  -- the lines of a list hold its head's line and the text of the chosen numbers
+  -- the lines of a list are its head's line and the text of the chosen numbers
   pub list_holds : (head chosen : List ℕ) → text_in (list_lines head task.words differences chosen) ≡ line head ++ flat_map (difference_line task) chosen
   list_holds head chosen = ap (λ rest. line head ++ rest) (each_line chosen)
 
   as_many : length differences ≡ length task.places
   as_many = sym (ap length are.places ∙ length-map differences place_of)
 
-  -- the lines of any numbers hold the text of these numbers
+  -- the lines of some numbers are the text of these numbers
   pub lines_hold : (kind : Kind) (told : List ℕ) (price : ℕ) → text_in (lines_of kind task.words differences told price) ≡ explanation_lines (kind_name kind) task told price
   lines_hold kind told price =
       ap (λ rest. head (length differences) ++ rest) (flat_map-append (λ line. line) (map (numbered_line task.words differences) told) (cost_line ∷ []))
@@ -64,7 +64,7 @@ module _ (task : Task) (differences : List Difference) (are : AreOf task differe
       cost_line : List ℕ
       cost_line = line (codes "cost " ++ decimal price)
 
-  -- and where the cost is the plan's after the told differences, the text is the explanation
+  -- if the cost is the plan's after the told differences, the text is the explanation
   pub text_holds : (kind : Kind) (told : set.FinSet nat_cmp) (price : ℕ) → price ≡ cost (patched task.planner task.user task.places told) task.plan
       → text_in (lines_of kind task.words differences (numbers (length differences) told) price) ≡ explanation (kind_name kind) task told
   text_holds kind told price paid =

@@ -18,11 +18,11 @@ use Rattle.explain_text.specs.Lines.{kind_name, sentence_of, numbered_line, list
 pub numbered_is : (n : ℕ) (sentence shown : List ℕ) → shown ≡ sentence → decimal n ++ (codes " " ++ shown) ≡ decimal n ++ codes " " ++ sentence
 numbered_is n sentence shown e = (λ i. decimal n ++ (codes " " ++ e i)) ∙ sym (append_assoc (decimal n) (codes " ") sentence)
 
--- the number alone where it is in the set
+-- a list of one number, if it is in the set
 abbrev single : set.FinSet nat_cmp → ℕ → List ℕ
 single told n = cond (set.contains told n) (n ∷ []) []
 
--- one number more
+-- one more number
 numbers_more : (told : set.FinSet nat_cmp) (n : ℕ) → numbers (n + 1) told ≡ numbers n told ++ single told (n + 1)
 numbers_more told n =
     ap (filter (set.contains told)) (range-append 1 n 1)
@@ -61,7 +61,7 @@ module _ (head : List ℕ) (words : Vocabulary) (differences : List Difference) 
       here = ap (λ o. option_map_or (λ d. line (decimal (n + 1) ++ codes " " ++ sentence_of words d)) o [])
           (ap (slice_get differences) back ∙ at)
 
--- the numbers of the whole set are among those of the differences, so they are as many
+-- each number of the set is that of a difference, so the list has all of them
 pub count_is : (told : set.FinSet nat_cmp) (count : ℕ) → count ≤ 256 → AreAmong count told → count_of told ≡ length (numbers count told)
 unfolding count_of
 count_is told count few among = ap length (filter-shorter (set.contains told) 1 count 256 few (λ k beyond. out k beyond _ refl))

@@ -7,7 +7,7 @@ use Rattle.model_kit.specs.declared.vocabulary.Signature.{Signature}
 use Rattle.model_kit.specs.Printed.{name_of}
 use Rattle.model_kit.specs.Sentences.{makes}
 
--- a text that was made is another text, where that is the same
+-- a text that was made is an equal text
 pub made_is : {E : Type 0} (made : Result (List ℕ) E) (a b : List ℕ) → IfOk made (λ text. text ≡ a) → a ≡ b → IfOk made (λ text. text ≡ b)
 made_is made a b is same = IfOk-weaker made (λ text. text ≡ a) (λ text. text ≡ b) (λ text e. e ∙ same) is
 
@@ -30,7 +30,7 @@ pub need_is : (has : Bool) (form shown word : List ℕ) → shown ≡ form → w
 need_is true form shown word e w = λ i. w i ++ (codes " " ++ e i)
 need_is false form shown word e w = λ i. w i ++ (codes " " ++ e i)
 
--- what an action makes of an atom, with any truth
+-- what an action makes of an atom, true or false
 pub makes_is : (has : Bool) (form shown word truth : List ℕ) → shown ≡ form → word ≡ (if has then codes "makes" else codes "does not make")
     → word ++ (codes " " ++ (shown ++ (codes " " ++ truth))) ≡ makes has form truth
 makes_is true form shown word truth e w =
@@ -38,7 +38,7 @@ makes_is true form shown word truth e w =
 makes_is false form shown word truth e w =
     (λ i. w i ++ (codes " " ++ (e i ++ (codes " " ++ truth)))) ∙ sym (append_assoc (codes "does not make " ++ form) (codes " ") truth)
 
--- the planner's and the user's, behind what is said of both
+-- the planner's and the user's content, after the words that both share
 pub not_is : (planner shown_planner user shown_user : List ℕ) → shown_planner ≡ planner → shown_user ≡ user
     → shown_planner ++ (codes ", not " ++ shown_user) ≡ planner ++ codes ", not " ++ user
 not_is planner shown_planner user shown_user p u = (λ i. p i ++ (codes ", not " ++ u i)) ∙ sym (append_assoc planner (codes ", not ") user)

@@ -1,5 +1,5 @@
--- The lines of an explanation, from the list of all differences, the numbers of those that it
--- tells, and the plan's cost after them.
+-- The lines of an explanation, from the list of all differences, the numbers of the told ones, and
+-- the plan's cost after them.
 use Rattle.std.specs.Prelude.{ℕ, ◌-◌, ◌≤◌, List, [], ◌∷◌, ◌++◌, map, length, codes, decimal}
 use Rattle.std.specs.Prelude.{slice_get, Bool, not, IsTrue}
 use Rattle.std.specs.Option.{option_map_or}
@@ -13,7 +13,7 @@ use Rattle.model_kit.specs.Sentences.{sentence, line}
 use Rattle.feature_diff.specs.declared.difference.Difference.{Difference}
 use Rattle.feature_diff.specs.Differing.{place_of, planner_content, user_content}
 
--- the kinds by their names
+-- the name of a kind
 abbrev pub kind_name : Kind → List ℕ
 kind_name Mce = codes "mce"
 kind_name Mme = codes "mme"
@@ -23,7 +23,7 @@ abbrev pub sentence_of : Vocabulary → Difference → List ℕ
 sentence_of words difference =
     sentence words (planner_content difference) (user_content difference) (place_of difference)
 
--- the sentence of a feature that one of the two models has
+-- the sentence of a feature that one of the two models has and the other lacks
 abbrev pub feature_sentence : Vocabulary → Bool → Place → List ℕ
 feature_sentence words planner_has place =
     sentence words (Feature planner_has) (Feature (not planner_has)) place
@@ -45,6 +45,6 @@ lines_of kind words differences told cost =
     ++ decimal (length differences)) words differences told
     ++ line (codes "cost " ++ decimal cost) ∷ []
 
--- the numbers are among those of so many differences, which count from 1
+-- each number is that of a difference; they count from 1
 abbrev pub AreAmong : ℕ → set.FinSet nat_cmp → Type 0
 AreAmong count told = (k : ℕ) → IsTrue (set.contains told k) → (1 ≤ k) × (k ≤ count)

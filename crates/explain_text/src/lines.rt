@@ -1,3 +1,5 @@
+//! The lines of explanations and of lists of differences.
+
 ghost use Rattle.std.specs.Prelude.{◌≡◌, ◌≤◌, ◌++◌, length, decimal, codes, All, IfOk};
 ghost use Rattle.mre_base.specs.Before.{numbers};
 ghost use Rattle.model_kit.specs.Sentences.{line};
@@ -11,9 +13,8 @@ use mre_base::{Kind, List, NoMemory, Places, Text};
 use std::alloc::Global;
 
 /// The lines of an explanation, each with its line feed: its kind and size, a numbered sentence for
-/// each told difference in ascending
-/// order, and what the plan costs after them. The words are those that the differences are numbered
-/// by.
+/// each told difference in ascending order, and what the plan costs after them. The vocabulary is
+/// that of the differences.
 pub fn text_of(
     alloc: Global,
     differences: &List<Difference>,
@@ -37,9 +38,8 @@ pub fn text_of(
     Ok(lines)
 }
 
-/// The line `head`, and a line for each chosen number that a difference has, in ascending order:
-/// the number and the difference's
-/// sentence. Each line has its line feed.
+/// The line `head`, and after it a line for each chosen difference, in ascending order: its number
+/// and its sentence. Each line has its line feed.
 pub fn list_of(
     alloc: Global,
     head: &str,

@@ -1,3 +1,5 @@
+//! The sentence of each difference.
+
 ghost use Rattle.std.specs.Prelude.{◌≡◌, ◌<◌, if◌then◌else◌, IsTrue, IfOk, length};
 ghost use Rattle.std.specs.String.{string_bytes};
 ghost use Rattle.model_kit.specs.declared.vocabulary.Vocabulary.{Vocabulary as AnyVocabulary};

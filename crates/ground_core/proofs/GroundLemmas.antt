@@ -27,7 +27,7 @@ use Rattle.named_tables.proofs.ReachLemmas.{reached_fits}
 use Rattle.named_tables.proofs.WorldLemmas.{in_models}
 use Rattle.pair_rules.specs.Ruled.{models_of}
 use Rattle.pair_tables.proofs.PlacedLemmas.{feature_ground}
-use Rattle.pair_tables.proofs.SchemeLemmas.{fact_is}
+use Rattle.pair_tables.proofs.SchemaLemmas.{fact_is}
 use Rattle.ground_core.specs.declared.stop.GroundStop.{GroundStop}
 use Rattle.ground_core.specs.Stops.{stop_of, Exceeds}
 use Rattle.ground_core.specs.Grounds.{IsFull}

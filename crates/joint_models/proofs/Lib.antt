@@ -12,3 +12,7 @@ pub mod Renumbered
 pub mod Schemas
 pub mod Built
 pub mod Paired
+pub mod Sorting
+pub mod FirstDisagreement
+pub mod NamedSchemas
+pub mod SomePair

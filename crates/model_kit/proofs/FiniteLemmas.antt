@@ -1,6 +1,6 @@
 -- A model with finitely many features as a graph: a state is a list of flags over the atoms that can ever be true.
 -- A list of ground actions is valid and costs less than a bound exactly where it is a way of the graph to a goal below the bound, so it is decided whether a plan is cheapest.
-use Rattle.std.proofs.Common.{◌≡◌, ℕ, ◌+◌, ◌-◌, ◌<◌, zero, suc, Bool, true, false, cond, List, [], ◌∷◌, ◌++◌, length, get_or, map, Option, Some, None, refl, sym, ap, subst, ◌∙◌, arith, ⊎_elim, inl, inr}
+use Rattle.std.proofs.Common.{◌≡◌, ℕ, ◌+◌, ◌-◌, ◌<◌, ◌≤◌, zero, suc, Bool, true, false, cond, List, [], ◌∷◌, ◌++◌, length, get_or, map, Option, Some, None, refl, sym, ap, subst, ◌∙◌, arith, ⊎_elim, inl, inr}
 use Rattle.std.specs.Prelude.{◌⊎◌, ◌||◌, ◌&&◌, not, IsTrue, Contains, All, is_some, unwrap_or}
 use Rattle.std.specs.Bool.{Decides}
 use Rattle.std.specs.List.{list_any, list_all, flat_map}
@@ -293,3 +293,12 @@ module _ (words : Vocabulary) (m : Meaning) (fin : IsFinite m) where
       (decided_way same_flags same_flags-decides step at_goal (all_actions words) step_listed states start (cost m plan)))
       (λ none. inr (λ cheapest. none (way_from_valid plan (Initial m) start (suc (cost m plan)) start_mirrors ground cheapest.valid (omega arith))))
       (way_known plan start (suc (cost m plan)))
+
+  -- it is decided whether some valid list of ground actions costs less than a bound
+  pub cheaper_or_none : (k : ℕ) → ((other : List GroundAction) × All (IsGroundAction words) other × Leads m (Initial m) other (IsGoal m) × (cost m other < k))
+      ⊎ ((other : List GroundAction) → All (IsGroundAction words) other → Leads m (Initial m) other (IsGoal m) → k ≤ cost m other)
+  cheaper_or_none k =
+      ⊎_elim
+      (λ way. let valid = valid_from_way way.0 (Initial m) start k start_mirrors way.1 in inl (way.0, valid.0, valid.1, valid.2))
+      (λ none. inr (λ other fits runs. ⊎_elim (λ less. absurd (none other (way_from_valid other (Initial m) start k start_mirrors fits runs less))) (λ le. le) (cases_lt (cost m other) k)))
+      (decided_way same_flags same_flags-decides step at_goal (all_actions words) step_listed states start k)

@@ -1,4 +1,4 @@
--- Words make the requests that they ask for, and no other; a request has the names that its words give.
+-- Words make exactly the request that they ask for, and the request's files have the names that the words give.
 use Rattle.std.proofs.Common.{◌≡◌, ◌≢◌, ℕ, zero, suc, Bool, true, false, ◌⊎◌, inl, inr, ⊎_elim, List, [], ◌∷◌, length, Option, None, Some, if◌then◌else◌, nat_eq, refl, sym, ap, ◌∙◌, subst, arith}
 use Rattle.std.specs.Prelude.{All, codes}
 use Rattle.std.specs.List.{list_all}
@@ -57,7 +57,7 @@ pick false x y request e = inr e
 first : (command word : List ℕ) (words files : List (List ℕ)) → is_word command word ≡ true → words ≡ files → command ∷ words ≡ word ∷ files
 first command word words files e same = λ i. same_text command word (sym e) i ∷ same i
 
--- a command and so many names
+-- a command and its number of names
 of_files : (count : ℕ) (make : List (List ℕ) → Request) (command word : List ℕ) (words : List (List ℕ)) (request : Request)
     → ((files : List (List ℕ)) → Ask (command ∷ words) (make files) ≡ ((command ∷ words ≡ word ∷ files) × AreNames count files))
     → (is_word command word ≡ true) × (option_map make (names_if count words) ≡ Some request) → Ask (command ∷ words) request
@@ -108,9 +108,6 @@ requested-from_Ask words (PlanPatch files) h = ap requested h.0 ∙ ap (option_m
 
 pub names_of-requested : (words : List (List ℕ)) (request : Request) → requested words ≡ Some request → names_of words ≡ files_of request
 names_of-requested words request e = ap names_in e
-
-pub names_of-none : (words : List (List ℕ)) → requested words ≡ None → names_of words ≡ []
-names_of-none words e = ap names_in e
 
 length-files_of : (words : List (List ℕ)) (request : Request) → Ask words request → length (files_of request) ≡ count_of request
 length-files_of words (Explain Mce files) h = h.1.counted

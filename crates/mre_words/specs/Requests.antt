@@ -1,4 +1,4 @@
--- The request that the words of a command make. The words are texts, each the list of its bytes.
+-- The request that the words of a command make. A word is the list of its bytes.
 use Rattle.std.specs.Prelude.{ℕ, Bool, true, false, ◌&&◌, List, [], ◌∷◌, length, Option, None, Some}
 use Rattle.std.specs.Prelude.{if◌then◌else◌, nat_eq, codes}
 use Rattle.std.specs.List.{list_all}
@@ -8,7 +8,7 @@ use Rattle.mre_base.specs.declared.kind.Kind.TheVariants.{Mce}
 use Rattle.mre_words.specs.declared.request.Request.{Request}
 use Rattle.mre_words.specs.declared.request.Request.TheVariants.{Explain, Diff, Patch, PlanPatch}
 
--- a word is this one, byte by byte
+-- two words are equal
 abbrev pub is_word : List ℕ → List ℕ → Bool
 is_word = pointwise nat_eq
 
@@ -17,11 +17,11 @@ abbrev pub is_name : List ℕ → Bool
 is_name [] = false
 is_name (byte ∷ bytes) = true
 
--- the words are so many names
+-- the words are this number of names
 abbrev pub are_names : ℕ → List (List ℕ) → Bool
 are_names count words = nat_eq (length words) count && list_all is_name words
 
--- the words, where they are so many names
+-- the words, if they are this number of names
 abbrev pub names_if : ℕ → List (List ℕ) → Option (List (List ℕ))
 names_if count words = if are_names count words then Some words else None
 
@@ -48,18 +48,18 @@ files_of (Diff files) = files
 files_of (Patch files) = files
 files_of (PlanPatch files) = files
 
--- how many files a request is about: two models, and a plan but for `diff`
+-- how many files a request is about: four for two models, and one for the plan except for `diff`
 abbrev pub count_of : Request → ℕ
 count_of (Explain kind files) = 5
 count_of (Diff files) = 4
 count_of (Patch files) = 5
 count_of (PlanPatch files) = 5
 
--- the names of a request's files, and none where there is no request
+-- the names of a request's files; without a request there are no names
 abbrev pub names_in : Option Request → List (List ℕ)
 names_in None = []
 names_in (Some request) = files_of request
 
--- the names of the files that the words ask to be read
+-- the names of the files that the words ask about
 abbrev pub names_of : List (List ℕ) → List (List ℕ)
 names_of words = names_in (requested words)

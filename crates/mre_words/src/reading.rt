@@ -1,8 +1,10 @@
+//! Reading a request from the words of a command.
+
 ghost use Rattle.std.specs.Prelude.{◌≡◌, ◌↔◌, None, Some, IfOk, IsErrOf, map, length};
 ghost use Rattle.std.specs.List.{list_all};
 ghost use Rattle.std.specs.String.{string_bytes};
 ghost use Rattle.mre_words.specs.Requests.{requested, explanation_for, names_if};
-ghost use Rattle.mre_words.specs.Requests.{files_of, count_of, are_names as are_so_many};
+ghost use Rattle.mre_words.specs.Requests.{files_of, count_of, are_names as are_names_of};
 ghost use Rattle.mre_words.specs.Requests.{is_name as is_filled};
 
 use crate::Request;
@@ -12,9 +14,9 @@ use std::alloc::Global;
 /// Why words make no request.
 #[derive(Clone, Copy, Debug, PartialEq, Eq)]
 pub enum WordsStop {
-    /// The words are none of those that ask for something.
+    /// The words ask for nothing that the program does.
     NoRequest,
-    /// There is no memory for the names.
+    /// Memory ran out while the names were copied.
     NoMemory,
 }
 
@@ -29,9 +31,8 @@ impl From<NoMemory> for WordsStop {
     }
 }
 
-/// The request that the words make, the program's own name left out: `explain mce`, `patch` or
-/// `plan-patch` and five names, or `diff`
-/// and four names. A name is any word that isn't empty.
+/// The request that the words after the program's own name make: `explain mce`, `patch` or
+/// `plan-patch` and five names, or `diff` and four names. A name is any word that isn't empty.
 pub fn read_words(alloc: Global, words: &[String]) -> Result<Request, WordsStop>
     ensures ok { IfOk result (λ request. requested (map string_bytes words.now) ≡ Some request) }
     ensures counted { IfOk result (λ request. length (files_of request) ≡ count_of request) }
@@ -77,7 +78,7 @@ fn read_explanation(alloc: Global, words: &[String]) -> Result<Request, WordsSto
     Ok(Request::Explain { kind, files })
 }
 
-// The words, where they are so many names.
+// The words as names, if they are this number of names.
 fn read_names(alloc: Global, words: &[String], count: usize) -> Result<List<Text>, WordsStop>
     ensures ok { IfOk result (λ files. names_if count (map string_bytes words.now) ≡ Some files) }
     ensures no_request { IsErrOf result WordsStop.NoRequest
@@ -90,7 +91,7 @@ fn read_names(alloc: Global, words: &[String], count: usize) -> Result<List<Text
 }
 
 fn are_names(words: &[String], count: usize) -> bool
-    ensures { result ≡ are_so_many count (map string_bytes words.now) }
+    ensures { result ≡ are_names_of count (map string_bytes words.now) }
 {
     words.len() == count && are_all_names(words)
 }

@@ -1,9 +1,11 @@
+//! Requests, and the names of the files that they are about.
+
 ghost use Rattle.std.specs.Prelude.{◌≡◌};
 ghost use Rattle.mre_words.specs.Requests.{files_of};
 
 use mre_base::{Kind, List, Text};
 
-/// What the words of a command ask for. The files' names stand in the order of the words.
+/// What the words of a command ask for. The files' names are in the order of the words.
 #[derive(Debug, Drop)]
 pub enum Request {
     /// An explanation of a kind: planner's domain and problem, user's domain and problem, plan.

@@ -25,6 +25,7 @@ use Rattle.feature_diff.specs.Differing.{place_of, places_of, planner_content, u
 use Rattle.pair_rules.specs.Made.{is_pre, user_add, user_init, user_cost, user_key, key_of, needs_of, adds_of, costs_of}
 use Rattle.pair_rules.proofs.PartLemmas.{filter_has, filter_keeps, picks_have, picks_keep}
 use Rattle.mre_base.proofs.Listed.{contains-map}
+use Rattle.mre_base.proofs.Tests.{not_false}
 
 -- a feature that is on
 on_is : (content : Content) (b : Bool) → content ≡ Feature b → is_on content ≡ b
@@ -228,7 +229,7 @@ module _ (planner user : Model) (differences : List Difference) (all : AreDiffer
       λ there.
           let (own, passes) = filter_has (λ atom. not (is_pre action atom differences)) schema.pre f there in
           let planner_has = (part_is (λ s. s.pre) f).0 own in
-          (planner_has, sym (ap is_on (all.all.agree (place.Pre action f) (unlisted_place (place.Pre action f) (places_of differences) (sym (tested f) ∙ not_true (is_pre action f differences) passes)))) ∙ planner_has),
+          (planner_has, sym (ap is_on (all.all.agree (place.Pre action f) (unlisted_place (place.Pre action f) (places_of differences) (sym (tested f) ∙ not_false (is_pre action f differences) passes)))) ∙ planner_has),
       λ (planner_has, user_has).
           filter_keeps (λ atom. not (is_pre action atom differences)) schema.pre f ((part_is (λ s. s.pre) f).1 planner_has)
           (elim (cases_Bool (is_pre action f differences)) [
@@ -236,10 +237,6 @@ module _ (planner user : Model) (differences : List Difference) (all : AreDiffer
             | inl some ↦ absurd (all.all.differ (place.Pre action f) (listed_place (place.Pre action f) (places_of differences) (sym (tested f) ∙ some)) (ap Feature planner_has ∙ sym (ap Feature user_has)))
           ]),
     )
-      where
-        not_true : (b : Bool) → not b ≡ true → b ≡ false
-        not_true true e = absurd (true≢false (sym e))
-        not_true false e = refl
 
     cost_is : meaning planner (place.Cost action) ≡ Price schema.cost
     cost_is = ap (λ o. option_map_or (λ s. Price s.cost) o Nothing) at

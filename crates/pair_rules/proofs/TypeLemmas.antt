@@ -24,7 +24,7 @@ use Rattle.task_kit.proofs.PlaceLemmas.{push_cases}
 use Rattle.joint_models.proofs.Mapped.{range_more}
 use Rattle.pair_rules.proofs.PartLemmas.{filter_has, filter_keeps}
 use Rattle.pair_rules.specs.Fitting.{IsUsed, AreAbove, AreTypesOf, AreObjectsOf, AreUsed, AreFitting, has_type}
-use Rattle.mre_base.proofs.PlaceWords.{same_answer}
+use Rattle.mre_base.proofs.Tests.{same_test}
 use Rattle.mre_base.proofs.Options.{one_item}
 
 -- ---- one more number in a set
@@ -91,7 +91,7 @@ module _ (types : List (List ℕ × ℕ)) (kind : ℕ) where
     pub above_all : (steps : ℕ) (bits : BitSet) → AreAbove types kind steps bits → steps ≤ length types + 1 → (length types + 1 ≤ steps) ⊎ ((last : ℕ) × (steps ≡ last + 1) × (ancestor types last kind ≡ 0))
         → (above : ℕ) → set.contains bits.members above ≡ is_of_type types kind above
     above_all steps bits set_is most ends above =
-        same_answer (set.contains bits.members above) (is_of_type types kind above)
+        same_test (set.contains bits.members above) (is_of_type types kind above)
         (λ has. let found = set_is.only above has in from_steps_up types kind above found.0 (let low = found.1 in omega (arith, low, most)) found.2)
         (λ is. let (n, few, at) = steps_up types kind above is in subst (λ i. set.contains bits.members i ≡ true) at (reached n few (cases_order n steps) ends))
       where

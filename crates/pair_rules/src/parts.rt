@@ -159,8 +159,7 @@ pub(crate) fn costs_of(
 }
 
 /// The functions at objects that have a value in the planner's model, and those that have one in
-/// the user's where there is another in
-/// the planner's or none.
+/// the user's where there is another in the planner's or none.
 pub(crate) fn keys_of(
     alloc: Global,
     values: &List<(u32, List<u32>, u32)>,

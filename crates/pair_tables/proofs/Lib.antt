@@ -2,5 +2,5 @@ pub mod FeatureLemmas
 pub mod NumberLemmas
 pub mod PlacedLemmas
 pub mod PriceLemmas
-pub mod SchemeLemmas
+pub mod SchemaLemmas
 pub mod TableLemmas

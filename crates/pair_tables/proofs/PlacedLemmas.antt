@@ -20,7 +20,7 @@ use Rattle.feature_diff.specs.Telling.{part_of, place_in}
 use Rattle.pair_rules.specs.Ruled.{models_of}
 use Rattle.pair_rules.proofs.RuleLemmas.{schema_there}
 use Rattle.pair_tables.specs.Featured.{AreFeatures}
-use Rattle.pair_tables.proofs.SchemeLemmas.{part_is}
+use Rattle.pair_tables.proofs.SchemaLemmas.{part_is}
 use Rattle.pair_tables.proofs.TableLemmas.{when_either}
 
 module _ (model : Model) (action : GroundAction) (fits : IsGroundAction model.words action) where

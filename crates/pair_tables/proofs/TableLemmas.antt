@@ -34,6 +34,7 @@ use Rattle.named_tables.proofs.NumberLemmas.{number_most, number_listed}
 use Rattle.pair_tables.specs.Made.{AreActionsUpTo, AreActionsOf, MayBeDone}
 use Rattle.mre_base.proofs.Listed.{item_contained}
 use Rattle.mre_base.proofs.Tests.{not_so}
+use Rattle.mre_base.proofs.Options.{one_item}
 
 module _ (models : Models) where
   abbrev d : ℕ
@@ -143,13 +144,10 @@ module _ (models : Models) where
     each = λ k other made at made_at. elim (push_cases old cases k made (sym (ap (λ list. slice_get list k) now) ∙ made_at)) [
       | inl earlier ↦ before.each k other made at earlier
       | inr (last, same) ↦
-          let one : action ≡ other = same_there (slice_get actions i) action other here (ap (slice_get actions) (sym (last ∙ before.counted)) ∙ at) in
+          let one : action ≡ other = one_item (slice_get actions i) action other here (ap (slice_get actions) (sym (last ∙ before.counted)) ∙ at) in
           subst (λ a. IsActionOf models number a made) one (subst (IsActionOf models number action) (sym same) is)
     ];
   }
-    where
-      same_there : {X : Type 0} (o : Option X) (x y : X) → o ≡ Some x → o ≡ Some y → x ≡ y
-      same_there o x y is_x is_y = cc
 
   module _ (atoms : List GroundAtom) (actions : List GroundAction) (reachable : ListsReachable models atoms actions) where
     abbrev number : GroundAtom → ℕ

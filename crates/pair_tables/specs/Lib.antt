@@ -2,4 +2,4 @@ pub mod Featured
 pub mod Made
 pub mod Numbers
 pub mod Pricing
-pub mod Schemes
+pub mod Schemas

@@ -4,7 +4,7 @@
 mod features;
 mod numbers;
 mod pricing;
-mod schemes;
+mod schemas;
 mod tabling;
 
 pub use tabling::table_of;

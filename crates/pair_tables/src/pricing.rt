@@ -10,9 +10,9 @@ ghost use Rattle.named_tables.specs.Tables.{IsWorth, IsValue, IsCostOf};
 ghost use Rattle.pair_rules.specs.Ruled.{models_of};
 ghost use Rattle.reach_kit.specs.Relaxed.{IsPlaced};
 ghost use Rattle.pair_tables.specs.Pricing.{worths_of};
-ghost use Rattle.pair_tables.specs.Schemes.{IsScheme};
+ghost use Rattle.pair_tables.specs.Schemas.{IsSchemaCases};
 
-use crate::schemes::Scheme;
+use crate::schemas::SchemaCases;
 use case_kit::{CaseCost, CaseValue};
 use feature_diff::{Difference, Pair, Worths, place_at};
 use model_kit::{CostExpr, FunctionTerm, GroundAction, arguments, value_at};
@@ -89,15 +89,15 @@ pub(crate) fn cost_case(
     pair: &Pair,
     differences: &List<Difference>,
     values: &BTreeMap<FunctionTerm, u32>,
-    scheme: &Scheme,
+    cases: &SchemaCases,
     action: &GroundAction,
 ) -> Result<CaseCost, NoMemory>
     requires few { length differences.now ≤ 256 }
     requires all { AreDifferencesOf pair.now.planner pair.now.user differences.now }
     requires table { IsTableOf pair.now.planner.values values.now }
     requires fits { IsGroundAction pair.now.planner.words action.now }
-    requires scheme { IsScheme (models_of pair.now.planner pair.now.user differences.now)
-        action.now.schema scheme.now }
+    requires cases { IsSchemaCases (models_of pair.now.planner pair.now.user differences.now)
+        action.now.schema cases.now }
     ensures { IfOk result (IsCostOf (models_of pair.now.planner pair.now.user differences.now)
         action.now) }
 {
@@ -105,7 +105,7 @@ pub(crate) fn cost_case(
     let objects = &action.objects;
     let planner = &pair.planner().schemas.item(schema).cost;
     let told = value_case(alloc, pair, differences, values, planner, objects)?;
-    match scheme.cost {
+    match cases.cost {
         None => Ok(CaseCost::One(told)),
         Some(place) => {
             let user = &pair.user().schemas.item(schema).cost;

@@ -10,12 +10,12 @@ ghost use Rattle.named_tables.specs.Tables.{IsActionOf, IsTableOf};
 ghost use Rattle.pair_rules.specs.Ruled.{models_of};
 ghost use Rattle.pair_tables.specs.Featured.{case_of};
 ghost use Rattle.pair_tables.specs.Numbers.{number_by};
-ghost use Rattle.pair_tables.specs.Schemes.{AreSchemes};
+ghost use Rattle.pair_tables.specs.Schemas.{AreSchemaCases};
 ghost use Rattle.pair_tables.specs.Made.{AreActionsOf, MayBeDone};
 
 use crate::numbers::AtomNumbers;
 use crate::pricing::cost_case;
-use crate::schemes::{Scheme, fact_features, schemes_of};
+use crate::schemas::{SchemaCases, all_schema_cases, fact_features};
 use case_kit::{Case, CaseAction, CaseTable, When};
 use feature_diff::{Difference, FactKind, Pair};
 use model_kit::{FunctionTerm, GroundAction, GroundAtom, SchemaAtom, instance_of, value_table};
@@ -67,27 +67,27 @@ fn action_cases(
     differences: &List<Difference>,
     numbers: &AtomNumbers,
     values: &BTreeMap<FunctionTerm, u32>,
-    schemes: &List<Scheme>,
+    schemas: &List<SchemaCases>,
     action: &GroundAction,
 ) -> Result<CaseAction, NoMemory>
     requires few { length differences.now ≤ 256 }
     requires all { AreDifferencesOf pair.now.planner pair.now.user differences.now }
     requires values { AreValuesOf pair.now.planner.values values.now }
-    requires schemes { AreSchemes (models_of pair.now.planner pair.now.user differences.now)
-        (length pair.now.planner.words.actions) schemes.now }
+    requires schemas { AreSchemaCases (models_of pair.now.planner pair.now.user differences.now)
+        (length pair.now.planner.words.actions) schemas.now }
     requires done { MayBeDone (models_of pair.now.planner pair.now.user differences.now)
         action.now }
     ensures { IfOk result (IsActionOf (models_of pair.now.planner pair.now.user differences.now)
         (number_by numbers.now) action.now) }
 {
-    let scheme = schemes.item(action.schema as usize);
+    let cases = schemas.item(action.schema as usize);
     let objects = &action.objects;
     Ok(CaseAction {
-        pre: part_cases(alloc, numbers, &scheme.pre, objects)?,
-        add: part_cases(alloc, numbers, &scheme.add, objects)?,
-        del: part_cases(alloc, numbers, &scheme.del, objects)?,
-        cost: cost_case(alloc, pair, differences, values, scheme, action)?,
-        known: scheme.known,
+        pre: part_cases(alloc, numbers, &cases.pre, objects)?,
+        add: part_cases(alloc, numbers, &cases.add, objects)?,
+        del: part_cases(alloc, numbers, &cases.del, objects)?,
+        cost: cost_case(alloc, pair, differences, values, cases, action)?,
+        known: cases.known,
     })
 }
 
@@ -106,11 +106,11 @@ fn all_cases(
         (number_by numbers.now) actions.now) }
 {
     let values = value_table(alloc, &pair.planner().values)?;
-    let schemes = schemes_of(alloc, pair, differences)?;
+    let schemas = all_schema_cases(alloc, pair, differences)?;
     let mut made = List::empty(alloc);
     for place in 0..actions.len() {
         let action = actions.item(place);
-        made.push(action_cases(alloc, pair, differences, numbers, &values, &schemes, action)?)?;
+        made.push(action_cases(alloc, pair, differences, numbers, &values, &schemas, action)?)?;
     }
     Ok(made)
 }

@@ -8,7 +8,7 @@ use Rattle.pddl_form.specs.declared.parts.Part.TheVariants as part
 use Rattle.pddl_form.specs.Grammar.{Sign, Says, Opens, Closes, IsName, IsVariable, IsTerm, IsNumber, IsFree, IsAny, IsCostName, Row, Typed, IsAtom, IsCondition, One, Many, IsCost, total, IsEffect, HasKeys, HasPredicates, HasFunctions, HasSections, IsDomain, HasFacts, HasStatements, IsProblem}
 use Rattle.pddl_form.specs.Rows.{only_if, no_keys, no_statements}
 
--- a name and the end of its list; a name alone
+-- a name and the end of its list; only a name
 abbrev pub ThenName : List Sign → Type 0
 ThenName t = (name : List ℕ) × IsName name × (t ≡ Says name ∷ Closes ∷ [])
 
@@ -19,7 +19,7 @@ OneName t = (name : List ℕ) × IsName name × (t ≡ Says name ∷ [])
 abbrev pub IsEntry : List Sign → Type 0
 IsEntry t = (name : List ℕ) × (rest : List Sign) × IsFree name × Typed IsVariable false rest × (t ≡ Says name ∷ rest)
 
--- functions behind a function: its type may come first
+-- functions after a function: its type may come first
 abbrev pub IsTail : List Sign → Type 0
 IsTail t = (rest : List Sign) × HasFunctions rest × ((t ≡ rest) ⊎ (t ≡ Says (codes "-") ∷ Says (codes "number") ∷ rest))
 
@@ -87,7 +87,7 @@ Denotes part.Goals t = IsCondition IsName Many t
 Denotes part.Objects t = Row IsName t
 Denotes part.Metric t = t ≡ Says (codes "minimize") ∷ total (Closes ∷ [])
 
--- what is due behind a sign
+-- what is due after a sign
 abbrev pub Follows : Next → List Sign → Type 0
 Follows next.Nothing t = t ≡ []
 Follows (next.One p) t = Denotes p t
@@ -101,6 +101,6 @@ if_follows false n t f = absurd f
 pub put : (P : List Sign → Type 0) (x y : List Sign) → x ≡ y → P y → P x
 put P x y e p = subst P (sym e) p
 
--- the word is another text
+-- the word and the signs after it are equal to others
 pub said : (P : List Sign → Type 0) (a b : List ℕ) (t u : List Sign) → a ≡ b → t ≡ u → P (Says b ∷ u) → P (Says a ∷ t)
 said P a b t u e h p = subst (λ (x : List Sign). P (Says a ∷ x)) (sym h) (subst (λ (w : List ℕ). P (Says w ∷ u)) (sym e) p)

@@ -19,7 +19,7 @@ after_sign p Opens = after_open p
 after_sign p Closes = after_close p
 after_sign p Strays = next.Refused
 
--- the signs are those of the part, by the table alone
+-- the signs are those of the part, by the table only
 pub data Meets : Part → List Sign → Type 0 where
   stop : {p : Part} {s : Sign} → after_sign p s ≡ next.Nothing → Meets p (s ∷ [])
   one : {p q : Part} {s : Sign} {rest : List Sign} → after_sign p s ≡ next.One q → Meets q rest → Meets p (s ∷ rest)
@@ -82,17 +82,17 @@ takes (one {p} {q} {s} {rest} is m) due met [] more e = absurd cc
 takes (two {p} {q} {r} {s} {first} {rest} is m n) due met [] more e = absurd cc
 takes (stop {p} {s} is) due met (t ∷ left) more e =
     let same : sign t ≡ s = cc in
-    let behind : map sign left ≡ more = cc in
-    record { now = noted p t met; left = left; goes_on = goes_as p due met s t left same next.Nothing is; signs = behind }
+    let later : map sign left ≡ more = cc in
+    record { now = noted p t met; left = left; goes_on = goes_as p due met s t left same next.Nothing is; signs = later }
 takes (one {p} {q} {s} {rest} is m) due met (t ∷ left) more e =
     let same : sign t ≡ s = cc in
-    let behind : map sign left ≡ rest ++ more = cc in
-    let k = takes m due (noted p t met) left more behind in
+    let later : map sign left ≡ rest ++ more = cc in
+    let k = takes m due (noted p t met) left more later in
     record { now = k.now; left = k.left; goes_on = goes_as p due met s t left same (next.One q) is ∙ k.goes_on; signs = k.signs }
 takes (two {p} {q} {r} {s} {first} {rest} is m n) due met (t ∷ left) more e =
     let same : sign t ≡ s = cc in
-    let behind : map sign left ≡ (first ++ rest) ++ more = cc in
-    let k = takes m (r ∷ due) (noted p t met) left (rest ++ more) (behind ∙ append_assoc first rest more) in
+    let later : map sign left ≡ (first ++ rest) ++ more = cc in
+    let k = takes m (r ∷ due) (noted p t met) left (rest ++ more) (later ∙ append_assoc first rest more) in
     let j = takes n due k.now k.left more k.signs in
     record { now = j.now; left = j.left; goes_on = goes_as p due met s t left same (next.Two q r) is ∙ k.goes_on ∙ j.goes_on; signs = j.signs }
 

@@ -24,7 +24,7 @@ use Rattle.pddl_form.specs.Words.{sort}
 use Rattle.pddl_form.proofs.Derivations.{Meets, stop, one, two}
 use Rattle.pddl_form.proofs.WordLemmas.{own_spelled, name_sort, term_sort, variable_sort, numeral_sort, free_sort}
 
--- the row is taken where its test passes
+-- the row is taken if its test passes
 passes : (n : Next) (b : Bool) → b ≡ true → only_if b n ≡ n
 passes n b e = ap (λ (x : Bool). only_if x n) e
 
@@ -62,36 +62,36 @@ more_name : (of : Listing) (s : Sort) → is_name_sort s ≡ true → typed.name
 more_name of word.Dash name = absurd cc
 more_name of s name = passes (next.One (part.NamesMore of)) (is_name_sort s) name
 
-one_name : (of : Listing) (behind : Bool) (text : List ℕ) (rest : List Sign) → IsName text → Meets (part.NamesMore of) rest → Meets (names_part of behind) (Says text ∷ rest)
+one_name : (of : Listing) (group : Bool) (text : List ℕ) (rest : List Sign) → IsName text → Meets (part.NamesMore of) rest → Meets (names_part of group) (Says text ∷ rest)
 unfolding names_part
 one_name of false text rest name more = one (passes (next.One (part.NamesMore of)) (is_name_sort (sort text)) (is_a_name text name)) more
 one_name of true text rest name more = one (more_name of (sort text) (is_a_name text name)) more
 
-no_names : (of : Listing) (behind : Bool) → Meets (names_part of behind) (Closes ∷ [])
+no_names : (of : Listing) (group : Bool) → Meets (names_part of group) (Closes ∷ [])
 unfolding names_part
 no_names of false = stop refl
 no_names of true = stop refl
 
-typed_names : (of : Listing) {behind : Bool} {t : List Sign} → Typed IsName behind t → Meets (names_part of behind) t
+typed_names : (of : Listing) {group : Bool} {t : List Sign} → Typed IsName group t → Meets (names_part of group) t
 unfolding names_part
-typed_names of (Typed.end {behind}) = no_names of behind
-typed_names of (Typed.thing {behind} {text} {rest} is more) = one_name of behind text rest is (typed_names of more)
+typed_names of (Typed.end {group}) = no_names of group
+typed_names of (Typed.thing {group} {text} {rest} is more) = one_name of group text rest is (typed_names of more)
 typed_names of (Typed.type {text} {rest} is more) = two refl (stop (passes next.Nothing (is_name_sort (sort text)) (is_a_name text is))) (typed_names of more)
 
-one_variable : (of : Owner) (behind : Bool) (text : List ℕ) (rest : List Sign) → IsVariable text → Meets (part.VariablesMore of) rest → Meets (variables_part of behind) (Says text ∷ rest)
+one_variable : (of : Owner) (group : Bool) (text : List ℕ) (rest : List Sign) → IsVariable text → Meets (part.VariablesMore of) rest → Meets (variables_part of group) (Says text ∷ rest)
 unfolding variables_part
 one_variable of false text rest is more = one (ap (typed.variables of) (variable_sort text is)) more
 one_variable of true text rest is more = one (ap (typed.variables_more of) (variable_sort text is)) more
 
-no_variables : (of : Owner) (behind : Bool) → Meets (variables_part of behind) (Closes ∷ [])
+no_variables : (of : Owner) (group : Bool) → Meets (variables_part of group) (Closes ∷ [])
 unfolding variables_part
 no_variables of false = stop refl
 no_variables of true = stop refl
 
-typed_variables : (of : Owner) {behind : Bool} {t : List Sign} → Typed IsVariable behind t → Meets (variables_part of behind) t
+typed_variables : (of : Owner) {group : Bool} {t : List Sign} → Typed IsVariable group t → Meets (variables_part of group) t
 unfolding variables_part
-typed_variables of (Typed.end {behind}) = no_variables of behind
-typed_variables of (Typed.thing {behind} {text} {rest} is more) = one_variable of behind text rest is (typed_variables of more)
+typed_variables of (Typed.end {group}) = no_variables of group
+typed_variables of (Typed.thing {group} {text} {rest} is more) = one_variable of group text rest is (typed_variables of more)
 typed_variables of (Typed.type {text} {rest} is more) = two refl (stop (passes next.Nothing (is_name_sort (sort text)) (is_a_name text is))) (typed_variables of more)
 
 listed : (of : Listing) {t : List Sign} → Typed IsName false t → Meets (part.Names of) t
@@ -112,7 +112,7 @@ free_goal : (s : Sort) → is_free_sort s ≡ true → goal_head s ≡ next.One 
 free_goal word.And free = absurd cc
 free_goal s free = passes (next.One part.Objects) (is_free_sort s) free
 
--- a list that a head takes behind its `(`
+-- a list that a head takes after its `(`
 Inside : Part → List Sign → Type 0
 Inside p t = (inner : List Sign) × (t ≡ Opens ∷ inner) × Meets p inner
 
@@ -242,17 +242,17 @@ predicates : {t : List Sign} → HasPredicates t → Meets part.Predicates t
 predicates HasPredicates.end = stop refl
 predicates (HasPredicates.predicate free list more) = two refl (predicate_entry free list) (predicates more)
 
--- functions, and functions behind a function
+-- functions, and functions after a function
 record Functions (t : List Sign) : Type 0 where
   first : Meets part.Functions t
-  behind : Meets part.FunctionTail t
+  later : Meets part.FunctionTail t
 
 functions : {t : List Sign} → HasFunctions t → Functions t
-functions HasFunctions.end = record { first = stop refl; behind = stop refl }
-functions (HasFunctions.function free list more) = record { first = two refl (function_entry free list) (functions more).behind; behind = two refl (function_entry free list) (functions more).behind }
+functions HasFunctions.end = record { first = stop refl; later = stop refl }
+functions (HasFunctions.function free list more) = record { first = two refl (function_entry free list) (functions more).later; later = two refl (function_entry free list) (functions more).later }
 functions (HasFunctions.number_function free list more) =
     let tail = two {p = part.FunctionTail} {s = Says (codes "-")} {first = Says (codes "number") ∷ []} refl (stop refl) (functions more).first in
-    record { first = two refl (function_entry free list) tail; behind = two refl (function_entry free list) tail }
+    record { first = two refl (function_entry free list) tail; later = two refl (function_entry free list) tail }
 
 sections : {seen : SectionsSeen} {t : List Sign} → HasSections seen t → Meets (part.Sections seen) t
 sections HasSections.end = stop refl
@@ -302,7 +302,7 @@ facts (HasFacts.total_value {text} number more) =
 left_open : (seen : StatementsSeen) → have_all_stood seen ≡ false → only_if (not (have_all_stood seen)) (next.One (part.Statement seen)) ≡ next.One (part.Statement seen)
 left_open seen left = open_passes (next.One (part.Statement seen)) (have_all_stood seen) left
 
--- a section that has not stood
+-- a section that hasn't occurred
 and_false : (a b : Bool) → b ≡ false → (a && b) ≡ false
 and_false true b e = e
 and_false false b e = refl

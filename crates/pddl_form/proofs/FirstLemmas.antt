@@ -1,4 +1,5 @@
--- A reading answers exactly the texts of a grammar, and of another the first place where it is none.
+-- A reading answers the words of exactly the texts of a grammar, and the first fault of any other
+-- forest.
 use Rattle.std.proofs.Common.{◌≡◌, true, List, [], ◌∷◌, ◌++◌, Ok, Err, ap, sym, subst, ◌∙◌, refl, append_assoc}
 use Rattle.std.specs.List.{list_all}
 use Rattle.std.proofs.lemmas.Bool.{and_parts, and_from}
@@ -50,9 +51,9 @@ module _ (start : Part) (good : Meetable start) where
       let stopped : run (start ∷ []) [] (before ++ (t ∷ more)) ≡ Stopped (fault_of due t more) = run_on (start ∷ []) [] before (t ∷ more) due met reached ∙ refused_stops due met t more refused in
       absurd cc
 
-  pub stopped_first : (tokens : List Token) (told : TextFault) → run (start ∷ []) [] tokens ≡ Stopped told → IsFirst start tokens told
-  stopped_first tokens told is =
-      let at = stops (start ∷ []) [] tokens told is in
+  pub stopped_first : (tokens : List Token) (found : TextFault) → run (start ∷ []) [] tokens ≡ Stopped found → IsFirst start tokens found
+  stopped_first tokens found is =
+      let at = stops (start ∷ []) [] tokens found is in
       record {
         before = at.before;
         token = at.token;
@@ -66,7 +67,7 @@ module _ (start : Part) (good : Meetable start) where
         fault = at.fault;
       }
 
-  -- ---- what stops is told
+  -- ---- a reading that stops answers the first fault
 
   begins : (tokens : List Token) → GoesOn start tokens → Begins start tokens
   begins tokens (more, written, text) = (more, text)
@@ -92,16 +93,16 @@ module _ (start : Part) (good : Meetable start) where
   must_refuse [] met t before reached stuck = tt
   must_refuse (p ∷ due) met t before reached stuck = refused_by p due met t before (after p t) reached stuck refl
 
-  first_stopped : (tokens : List Token) (told : TextFault) → IsFirst start tokens told → run (start ∷ []) [] tokens ≡ Stopped told
-  first_stopped tokens told first =
+  first_stopped : (tokens : List Token) (found : TextFault) → IsFirst start tokens found → run (start ∷ []) [] tokens ≡ Stopped found
+  first_stopped tokens found first =
       ap (run (start ∷ []) []) first.split
       ∙ run_on (start ∷ []) [] first.before (first.token ∷ first.rest) first.due first.met first.reached
       ∙ refused_stops first.due first.met first.token first.rest (must_refuse first.due first.met first.token first.before first.reached first.stuck)
       ∙ ap Stopped (sym first.fault)
 
-  stopped_for_good : (tokens more : List Token) (told : TextFault) (m : List Met) → run (start ∷ []) [] tokens ≡ Stopped told → run (start ∷ []) [] (tokens ++ more) ≡ Going [] m → ⊥
-  stopped_for_good tokens more told m is text =
-      let at = stops (start ∷ []) [] tokens told is in
+  stopped_for_good : (tokens more : List Token) (found : TextFault) (m : List Met) → run (start ∷ []) [] tokens ≡ Stopped found → run (start ∷ []) [] (tokens ++ more) ≡ Going [] m → ⊥
+  stopped_for_good tokens more found m is text =
+      let at = stops (start ∷ []) [] tokens found is in
       let whole : tokens ++ more ≡ at.before ++ (at.token ∷ (at.rest ++ more)) = ap (λ (ts : List Token). ts ++ more) at.split ∙ append_assoc at.before (at.token ∷ at.rest) more in
       let stopped : run (start ∷ []) [] (tokens ++ more) ≡ Stopped (fault_of at.due_there at.token (at.rest ++ more)) =
       ap (run (start ∷ []) []) whole
@@ -113,35 +114,35 @@ module _ (start : Part) (good : Meetable start) where
   short_ends : (tokens : List Token) (past : Place) (r : Run) → IsShort start tokens → run (start ∷ []) [] tokens ≡ r → ends past r ≡ Err (fault past rule.Form [])
   short_ends tokens past (Going [] met) short is = absurd (short.unfinished (met, is))
   short_ends tokens past (Going (p ∷ due) met) short is = refl
-  short_ends tokens past (Stopped told) short is = absurd (stopped_for_good tokens short.goes_on.0 told short.goes_on.2.0 is short.goes_on.2.1)
+  short_ends tokens past (Stopped found) short is = absurd (stopped_for_good tokens short.goes_on.0 found short.goes_on.2.0 is short.goes_on.2.1)
 
   spelled_at : (past : Place) (r : Run) (met : List Met) → ends past r ≡ Ok met → r ≡ Going [] met
   spelled_at past (Going [] m) met e = let same : m ≡ met = cc in ap (Going []) same
   spelled_at past (Going (p ∷ due) m) met e = absurd cc
-  spelled_at past (Stopped told) met e = absurd cc
+  spelled_at past (Stopped found) met e = absurd cc
 
   module _ (forest : Forest) where
-    broken : (told : TextFault) → LeavesForm start forest told → form_of start forest ≡ Err told
-    broken told (at_token first) = ap (ends forest.past) (first_stopped (tokens_of_all forest.trees) told first)
-    broken told (past_end short) = short_ends (tokens_of_all forest.trees) forest.past (run (start ∷ []) [] (tokens_of_all forest.trees)) short refl
+    broken : (found : TextFault) → LeavesForm start forest found → form_of start forest ≡ Err found
+    broken found (at_token first) = ap (ends forest.past) (first_stopped (tokens_of_all forest.trees) found first)
+    broken found (past_end short) = short_ends (tokens_of_all forest.trees) forest.past (run (start ∷ []) [] (tokens_of_all forest.trees)) short refl
 
-    left_at : (r : Run) (told : TextFault) → run (start ∷ []) [] (tokens_of_all forest.trees) ≡ r → ends forest.past r ≡ Err told → LeavesForm start forest told
-    left_at (Going [] met) told is e = absurd cc
-    left_at (Going (p ∷ due) met) told is e =
-        let same : fault forest.past rule.Form [] ≡ told = cc in
+    left_at : (r : Run) (found : TextFault) → run (start ∷ []) [] (tokens_of_all forest.trees) ≡ r → ends forest.past r ≡ Err found → LeavesForm start forest found
+    left_at (Going [] met) found is e = absurd cc
+    left_at (Going (p ∷ due) met) found is e =
+        let same : fault forest.past rule.Form [] ≡ found = cc in
         let unfinished : IsText start (tokens_of_all forest.trees) → ⊥ = λ text. let whole = text.1 in absurd cc in
         subst (LeavesForm start forest) same (past_end (record { goes_on = going_begins (tokens_of_all forest.trees) (p ∷ due) met is; unfinished = unfinished }))
-    left_at (Stopped f) told is e =
-        let same : f ≡ told = cc in
-        at_token (stopped_first (tokens_of_all forest.trees) told (is ∙ ap Stopped same))
+    left_at (Stopped f) found is e =
+        let same : f ≡ found = cc in
+        at_token (stopped_first (tokens_of_all forest.trees) found (is ∙ ap Stopped same))
 
-    -- a reading gives the words of exactly the texts, and of another the first place where it is none
+    -- a reading gives the words of exactly the texts, and the first fault of any other forest
     pub form_exact : IsExact (form_of start forest) (HasForm start (tokens_of_all forest.trees)) (LeavesForm start forest)
     form_exact = record {
       spelled = λ met is. ap (ends forest.past) is;
       is_spelled = λ met is. spelled_at forest.past (run (start ∷ []) [] (tokens_of_all forest.trees)) met is;
       broken = broken;
-      is_broken = λ told is. left_at (run (start ∷ []) [] (tokens_of_all forest.trees)) told refl is;
+      is_broken = λ found is. left_at (run (start ∷ []) [] (tokens_of_all forest.trees)) found refl is;
     }
 
 -- a whole text can be met

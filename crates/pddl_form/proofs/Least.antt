@@ -24,14 +24,15 @@ opened = Open somewhere
 abbrev closed : Token
 closed = Close somewhere
 
--- what a problem owes behind its sections so far, where `:init` and `:goal` have stood or not
+-- what a problem owes after its sections so far, by whether `:init` and `:goal` have occurred
 abbrev owed : Bool → Bool → List Token
 owed true true = closed ∷ []
 owed false true = opened ∷ said (codes ":init") ∷ closed ∷ closed ∷ []
 owed true false = opened ∷ said (codes ":goal") ∷ opened ∷ closed ∷ closed ∷ closed ∷ []
 owed false false = opened ∷ said (codes ":init") ∷ closed ∷ opened ∷ said (codes ":goal") ∷ opened ∷ closed ∷ closed ∷ closed ∷ []
 
--- a section that has not stood, and what is owed behind it: `:init`, `:goal`, requirements, objects and the metric have stood or not
+-- a section that hasn't occurred, and what is owed after it, by whether `:init`, `:goal`,
+-- requirements, objects and the metric have occurred
 abbrev one_more : Bool → Bool → Bool → Bool → Bool → List Token
 one_more false g r o m = said (codes ":init") ∷ closed ∷ owed true g
 one_more true false r o m = said (codes ":goal") ∷ opened ∷ closed ∷ closed ∷ owed true true
@@ -99,7 +100,7 @@ least part.Metric = said (codes "minimize") ∷ opened ∷ said (codes "total-co
 least (part.Statements seen) = owed seen.init seen.goal
 least (part.Statement seen) = one_more seen.init seen.goal seen.requirements seen.objects seen.metric
 
--- behind these tokens the part is met, and what was due behind it is due
+-- after these tokens the part is met, and what was due after it is due
 abbrev pub Meets : Part → List Token → List Part → List Met → Type 0
 Meets p text due met = (now : List Met) × ((tokens : List Token) → run (p ∷ due) met (text ++ tokens) ≡ run due now tokens)
 
@@ -178,7 +179,7 @@ least_meets part.Metric due met good = (_, λ tokens. refl)
 least_meets (part.Statements seen) due met good = statements_meet seen.requirements seen.objects seen.init seen.goal seen.metric due met
 least_meets (part.Statement seen) due met good = statement_meets seen.requirements seen.objects seen.init seen.goal seen.metric due met good
 
--- ---- the shortest texts can stand in a text
+-- ---- the tokens of the shortest texts can occur in a text
 
 owed_written : (i g : Bool) → list_all is_written (owed i g) ≡ true
 owed_written true true = refl

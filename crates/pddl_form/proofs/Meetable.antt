@@ -1,4 +1,5 @@
--- The parts that a run reaches can be met: a further section of a problem is due only where one has not stood.
+-- The parts that a run reaches can be met: a further section of a problem is due only if one hasn't
+-- occurred.
 use Rattle.std.proofs.Common.{◌≡◌, Bool, true, false, List, [], ◌∷◌, subst, refl}
 use Rattle.std.specs.Prelude.{not}
 use Rattle.std.specs.List.{AllByRecursion}
@@ -19,7 +20,7 @@ use Rattle.pddl_form.specs.Runs.{Run, Going, after, noted, goes, run}
 use Rattle.pddl_form.specs.Table.{after_word, after_open, may_close}
 use Rattle.pddl_form.specs.Words.{sort}
 
--- a section is due only where one has not stood
+-- a section is due only if one hasn't occurred
 abbrev pub Meetable : Part → Type 0
 Meetable (part.Statement seen) = have_all_stood seen ≡ false
 Meetable p = Unit {0}
@@ -148,7 +149,7 @@ goes_good next.Refused due f go d m good all more e = absurd cc
 meetable_along : (due then : List Part) (met m : List Met) → Going due met ≡ Going then m → AreMeetable due → AreMeetable then
 meetable_along due then met m e all = let same : due ≡ then = cc in subst AreMeetable same all
 
--- what is due behind tokens that a run takes can be met
+-- what is due after tokens that a run takes can be met
 pub still_meetable : (due : List Part) (met : List Met) (tokens : List Token) (d : List Part) (m : List Met) → AreMeetable due → run due met tokens ≡ Going d m → AreMeetable d
 still_meetable [] met [] d m all e = meetable_along [] d met m e all
 still_meetable (p ∷ due) met [] d m all e = meetable_along (p ∷ due) d met m e all

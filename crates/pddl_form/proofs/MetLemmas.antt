@@ -14,7 +14,8 @@ use Rattle.pddl_form.specs.First.{HasForm}
 use Rattle.pddl_form.specs.Mets.{words_in, word_of, IsTaken}
 use Rattle.pddl_form.specs.Runs.{Run, Going, after, noted, goes, run}
 
-same_met : (due d : List Part) (met m : List Met) → Going due met ≡ Going d m → met ≡ m
+-- runs that go on alike have met the same words
+pub same_met : (due d : List Part) (met m : List Met) → Going due met ≡ Going d m → met ≡ m
 same_met due d met m e = cc
 
 goes_has : (n : Next) (due : List Part) (f : TextFault) (go : List Part → Run) (d : List Part) (m : List Met) (Q : Type 0) → ((then : List Part) → n ≢ next.Refused → go then ≡ Going d m → Q) → goes n due f go ≡ Going d m → Q

@@ -1,4 +1,4 @@
--- One word in front of what follows it is in the grammar again.
+-- A form stays in the grammar with one more word in front.
 use Rattle.std.proofs.Common.{◌≡◌, ◌≢◌, ℕ, Bool, true, false, List, [], ◌∷◌, ◌++◌, inl, inr, refl, ap, sym, ◌∙◌, append_assoc}
 use Rattle.std.specs.Prelude.{not, codes}
 use Rattle.std.proofs.lemmas.Bool.{not-true}
@@ -221,14 +221,14 @@ module _ (text : List ℕ) (t : List Sign) where
   statement_says seen s is f = absurd f
 
   pub value_fact : sort text ≡ word.Equal → (first rest : List Sign) → Denotes part.Valued first → (number : List ℕ) → IsNumber number → rest ≡ Says number ∷ Closes ∷ [] → t ≡ first ++ rest → Denotes part.FactHead (Says text ∷ t)
-  value_fact is first rest (inl e) number good d h behind facts =
-      said (λ x. HasFacts (Opens ∷ x)) text (codes "=") (t ++ behind) _ (spelled word.Equal is refl)
-      (ap (λ (x : List Sign). x ++ behind) (h ∙ ap (λ (x : List Sign). x ++ rest) e ∙ ap total d))
+  value_fact is first rest (inl e) number good d h later facts =
+      said (λ x. HasFacts (Opens ∷ x)) text (codes "=") (t ++ later) _ (spelled word.Equal is refl)
+      (ap (λ (x : List Sign). x ++ later) (h ∙ ap (λ (x : List Sign). x ++ rest) e ∙ ap total d))
       (HasFacts.total_value good facts)
-  value_fact is first rest (inr (name, inner, free, row, e)) number good d h behind facts =
-      said (λ x. HasFacts (Opens ∷ x)) text (codes "=") (t ++ behind) _ (spelled word.Equal is refl)
-      (ap (λ (x : List Sign). x ++ behind) (h ∙ ap (λ (x : List Sign). x ++ rest) e ∙ ap (λ (x : List Sign). Opens ∷ Says name ∷ inner ++ x) d)
-      ∙ append_assoc (Opens ∷ Says name ∷ inner) (Says number ∷ Closes ∷ []) behind)
+  value_fact is first rest (inr (name, inner, free, row, e)) number good d h later facts =
+      said (λ x. HasFacts (Opens ∷ x)) text (codes "=") (t ++ later) _ (spelled word.Equal is refl)
+      (ap (λ (x : List Sign). x ++ later) (h ∙ ap (λ (x : List Sign). x ++ rest) e ∙ ap (λ (x : List Sign). Opens ∷ Says name ∷ inner ++ x) d)
+      ∙ append_assoc (Opens ∷ Says name ∷ inner) (Says number ∷ Closes ∷ []) later)
       (HasFacts.value number free row good facts)
 
   pub fact_says : (s : Sort) → sort text ≡ s → Follows (fact_head s) t → Denotes part.FactHead (Says text ∷ t)

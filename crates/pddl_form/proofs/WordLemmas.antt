@@ -4,6 +4,7 @@ use Rattle.std.specs.Prelude.{◌==◌, ◌||◌, ◌⊎◌, codes}
 use Rattle.std.specs.List.{AllByRecursion}
 use Rattle.std.specs.Option.{unwrap_or, is_some}
 use Rattle.std.specs.Str.{bytes_eq}
+use Rattle.std.proofs.lemmas.Bool.{or_right}
 use Rattle.std.proofs.lemmas.Bool.Decides.{nat_tests}
 use Rattle.std.proofs.lemmas.Slice.Eq.{bytes_eq-Decides}
 use Rattle.pddl_text.specs.Bytes.{is_name_start}
@@ -52,7 +53,7 @@ own_by : (text : List ℕ) (s : Sort) → is_shape s ≡ false → (text ≡ spe
 own_by text s own (inl e) = e
 own_by text s own (inr e) = let shaped = sym (ap is_shape e) ∙ shape_shape text in absurd cc
 
--- a word that is one of the grammar's own is spelled so
+-- a word that is one of the grammar's own has its spelling
 pub own_spelled : (text : List ℕ) (s : Sort) → sort text ≡ s → is_shape s ≡ false → text ≡ spelling s
 own_spelled text s e own = own_by text s own (among own_words text s e)
 
@@ -165,7 +166,7 @@ numeral_by false true v = refl
 numeral_by false false true = refl
 numeral_by false false false = refl
 
--- a word is a name exactly where its first byte is one of a name
+-- a word is a name exactly if its first byte begins a name
 pub name_sort : (text : List ℕ) → is_name_sort (sort text) ≡ is_name text
 name_sort = by_sort is_name_sort is_name own_name (λ text. name_by (is_some (number text)) (is_name text) (is_variable text) (number_name text))
 
@@ -204,15 +205,11 @@ either_by : (r f : Bool) → (r || f) ≡ true → r ≡ false → f ≡ true
 either_by true f name free = absurd cc
 either_by false f name free = name
 
-name_from : (r f : Bool) → f ≡ true → (r || f) ≡ true
-name_from true f free = refl
-name_from false f free = free
-
 either_name : (s : Sort) → is_name_sort s ≡ true → is_reserved s ≡ false → is_free_sort s ≡ true
 either_name s name free = either_by (is_reserved s) (is_free_sort s) name free
 
 free_name : (s : Sort) → is_free_sort s ≡ true → is_name_sort s ≡ true
-free_name s free = name_from (is_reserved s) (is_free_sort s) free
+free_name s free = or_right (is_reserved s) (is_free_sort s) free
 
 differs : (text other : List ℕ) → is_free_sort (sort text) ≡ true → is_free_sort (sort other) ≡ false → text ≢ other
 differs text other free not same = let equal = ap (λ (t : List ℕ). is_free_sort (sort t)) same in absurd cc

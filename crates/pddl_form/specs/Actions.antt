@@ -1,4 +1,4 @@
--- Rows of the table: actions, conditions, effects and costs. A row says what is due behind a word.
+-- Rows of the table: actions, conditions, effects and costs. A row says what is due after a word.
 use Rattle.std.specs.Prelude.{not, true}
 use Rattle.pddl_form.specs.declared.parts.KeysSeen.{KeysSeen}
 use Rattle.pddl_form.specs.declared.parts.Part.TheVariants as part

@@ -1,4 +1,4 @@
--- Rows of the table: the sections of a domain. A row says what is due behind a word.
+-- Rows of the table: the sections of a domain. A row says what is due after a word.
 use Rattle.std.specs.Prelude.{not, true}
 use Rattle.pddl_form.specs.declared.parts.Listing.TheVariants as listing
 use Rattle.pddl_form.specs.declared.parts.Owner.TheVariants as owner
@@ -21,7 +21,7 @@ abbrev pub domain_word : Sort → Next
 domain_word word.Domain = next.One part.DomainName
 domain_word s = next.Refused
 
--- each section of a domain at most once, save the actions
+-- each section of a domain at most once, except the actions
 abbrev pub section : SectionsSeen → Sort → Next
 section seen word.Requirements =
     only_if (not seen.requirements) (next.Two part.Words
@@ -45,11 +45,11 @@ section seen s = next.Refused
 abbrev pub predicate_name : Sort → Next
 predicate_name s = only_if (is_free_sort s) (next.One (part.Variables owner.Predicate))
 
--- the same of a function
+-- `(NAME VARIABLES)` of a function, the name not reserved
 abbrev pub function_name : Sort → Next
 function_name s = only_if (is_free_sort s) (next.One (part.Variables owner.Function))
 
--- behind a function: the dash before its type
+-- after a function: the dash before its type
 abbrev pub function_tail : Sort → Next
 function_tail word.Dash = next.Two part.FunctionType part.Functions
 function_tail s = next.Refused

@@ -1,4 +1,4 @@
--- What is told of the first token that no text of the grammar has, by the part that was due there.
+-- The fault of the first token that no text of the grammar has there, by the part that was due.
 use Rattle.std.specs.Prelude.{ℕ, ◌&&◌, Bool, true, false, List, [], ◌∷◌, codes, Option, None, Some}
 use Rattle.std.specs.Prelude.{if◌then◌else◌}
 use Rattle.pddl_text.specs.declared.fault.TextFault.{TextFault}
@@ -20,7 +20,7 @@ abbrev pub is_negation : Sort → Bool
 is_negation word.Not = true
 is_negation s = false
 
--- the word means a form that is out of scope, where this part is due
+-- the word begins a form that is out of scope, where this part is due
 abbrev pub is_unsupported : Part → Sort → Bool
 is_unsupported part.ConditionHead s = is_condition_word s
 is_unsupported part.GoalHead s = is_condition_word s
@@ -58,7 +58,7 @@ abbrev pub is_either : Sort → Bool
 is_either word.Either = true
 is_either s = false
 
--- a list that begins with the word means a form that is out of scope, where no list may stand
+-- a list that begins with the word is a form that is out of scope, where this part takes no list
 abbrev pub is_unsupported_list : Part → Sort → Bool
 is_unsupported_list (part.NameType listing) s = is_either s
 is_unsupported_list (part.VariableType owner) s = is_either s
@@ -70,19 +70,19 @@ is_unsupported_list p s = false
 abbrev pub fault : Place → TextRule → List ℕ → TextFault
 fault at rule word = record { at = at; rule = rule; word = word }
 
--- the word that a list begins with, by the tokens behind its `(`
+-- the word that a list begins with, from the tokens after its `(`
 abbrev pub head : List Token → Option (List ℕ × Place)
 head (token.Word text at from past ∷ tokens) = Some (text, at)
 head tokens = None
 
--- the fault of a `(`: it stands at the list's first word, where that word is out of scope
+-- the fault of a `(`; it is at the list's first word if that word is out of scope
 abbrev pub open_fault : Part → Place → Option (List ℕ × Place) → TextFault
 open_fault p at None = fault at rule.Form (codes "(")
 open_fault p at (Some (text, first)) =
     if is_unsupported_list p (sort text) then fault first rule.Unsupported text
     else fault at rule.Form (codes "(")
 
--- the fault of a token that the part does not take, by the tokens behind it
+-- the fault of a token that the part doesn't take, with the tokens after it
 abbrev pub fault_at : Part → Token → List Token → TextFault
 fault_at p (token.Word text at from past) tokens = fault at (word_rule p (sort text)) text
 fault_at p (token.Open at) tokens = open_fault p at (head tokens)

@@ -1,4 +1,4 @@
--- Which tokens are a text of a grammar, and where tokens that are none leave it first.
+-- The tokens that are a text of a grammar, and the place where others first leave it.
 use Rattle.std.specs.Prelude.{◌≡◌, ℕ, ◌==◌, ◌&&◌, Bool, true, false, List, [], ◌∷◌, ◌++◌, IsTrue}
 use Rattle.std.specs.Char.{to_ascii_lowercase}
 use Rattle.std.specs.List.{list_all}
@@ -33,14 +33,14 @@ abbrev pub is_word : List ℕ → Bool
 is_word [] = false
 is_word (b ∷ bytes) = list_all (λ c. is_word_byte c && (to_ascii_lowercase c == c)) (b ∷ bytes)
 
--- the token can stand in a text
+-- the token can occur in a text
 abbrev pub is_written : Token → Bool
 is_written (token.Word text at from past) = is_word text
 is_written (token.Open at) = true
 is_written (token.Close at) = true
 is_written (token.Stray at) = false
 
--- a text of the grammar goes on behind the tokens, with tokens that can stand in a text
+-- the tokens can be continued to a text of the grammar, by tokens that can occur in a text
 abbrev pub GoesOn : Part → List Token → Type 0
 GoesOn start tokens =
     (more : List Token) × IsTrue (list_all is_written more) × IsText start (tokens ++ more)
@@ -54,30 +54,30 @@ abbrev pub fault_of : List Part → Token → List Token → TextFault
 fault_of [] t tokens = fault_past t
 fault_of (p ∷ due) t tokens = fault_at p t tokens
 
--- this is the first token that no text has behind the tokens before it, and what is told of it
-pub record IsFirst (start : Part) (tokens : List Token) (told : TextFault) : Type 0 where
+-- the first token that no text has after the tokens before it, and its fault
+pub record IsFirst (start : Part) (tokens : List Token) (found : TextFault) : Type 0 where
   pub before : List Token
   pub token : Token
   pub rest : List Token
   pub split : tokens ≡ before ++ token ∷ rest
-  -- some text goes on behind the tokens before it
+  -- some text goes on after the tokens before it
   pub goes_on : GoesOn start before
   -- no text begins with them and this token
   pub stuck : Begins start (before ++ token ∷ []) → ⊥
-  -- the parts that are due there tell the fault
+  -- the parts that are due there give the fault
   pub due : List Part
   pub met : List Met
   pub reached : run (start ∷ []) [] before ≡ Going due met
-  pub fault : told ≡ fault_of due token rest
+  pub fault : found ≡ fault_of due token rest
 
--- a text goes on behind the tokens, and they are none: the fault stands past the last byte
+-- the tokens can be continued to a text but aren't one: the fault is past the last byte
 pub record IsShort (start : Part) (tokens : List Token) : Type 0 where
   pub goes_on : GoesOn start tokens
   pub unfinished : IsText start tokens → ⊥
 
--- the forest is no text of the grammar, and this is told of the first place where it is none
+-- the forest isn't in the grammar; this is the fault where it first leaves it
 pub data LeavesForm (start : Part) (forest : Forest) : TextFault → Type 0 where
-  at_token : {told : TextFault} → IsFirst start (tokens_of_all forest.trees) told
-      → LeavesForm start forest told
+  at_token : {found : TextFault} → IsFirst start (tokens_of_all forest.trees) found
+      → LeavesForm start forest found
   past_end : IsShort start (tokens_of_all forest.trees)
       → LeavesForm start forest (fault forest.past rule.Form [])

@@ -1,5 +1,5 @@
--- The grammars of domains and problems, in the words of a text and its parentheses. Each form but a
--- whole one goes from behind its first words up to the `)` of its list.
+-- The grammars of domains and problems, in the words of a text and its parentheses. `Row`, `Typed`
+-- and the forms `Has..` go from after the first words of a list up to its `)`.
 use Rattle.std.specs.Prelude.{ℕ, ◌≡◌, ◌≢◌, ◌||◌, Bool, true, false, List, [], ◌∷◌, ◌++◌, codes}
 use Rattle.std.specs.List.{AllByRecursion}
 use Rattle.std.specs.Option.{is_some}
@@ -40,11 +40,11 @@ IsVariable text = is_variable text ≡ true
 abbrev pub IsTerm : List ℕ → Type 0
 IsTerm text = (is_name text || is_variable text) ≡ true
 
--- a number: digits, and perhaps a point and zeros or nothing behind them
+-- a number: digits, perhaps with a point and any zeros after them
 abbrev pub IsNumber : List ℕ → Type 0
 IsNumber text = is_some (number text) ≡ true
 
--- the names that no action, predicate or function is declared with, and no atom begins with
+-- the names that no action, predicate or function may have, and no atom may begin with
 abbrev pub reserved_words : List (List ℕ)
 reserved_words =
     codes "and" ∷ codes "or" ∷ codes "not" ∷ codes "imply" ∷ codes "forall" ∷ codes "exists"
@@ -71,13 +71,13 @@ pub data Row (IsWord : List ℕ → Type 0) : List Sign → Type 0 where
   word : {text : List ℕ} {rest : List Sign} → IsWord text → Row IsWord rest
       → Row IsWord (Says text ∷ rest)
 
--- a typed list up to the end of its list: behind things of a group, a dash and the group's type may
--- stand; the test tells whether things of a group stand before
+-- a typed list up to its `)`: a dash and a type may follow the things of a group; the test says
+-- whether things of a group come just before
 pub data Typed (IsThing : List ℕ → Type 0) : Bool → List Sign → Type 0 where
-  end : {behind : Bool} → Typed IsThing behind (Closes ∷ [])
-  thing : {behind : Bool} {text : List ℕ} {rest : List Sign} → IsThing text
+  end : {group : Bool} → Typed IsThing group (Closes ∷ [])
+  thing : {group : Bool} {text : List ℕ} {rest : List Sign} → IsThing text
       → Typed IsThing true rest
-      → Typed IsThing behind (Says text ∷ rest)
+      → Typed IsThing group (Says text ∷ rest)
   type : {text : List ℕ} {rest : List Sign} → IsName text → Typed IsThing false rest
       → Typed IsThing true (Says (codes "-") ∷ Says text ∷ rest)
 
@@ -148,16 +148,17 @@ pub data HasPredicates : List Sign → Type 0 where
   predicate : {name : List ℕ} {first rest : List Sign} → IsFree name → Typed IsVariable false first
       → HasPredicates rest → HasPredicates (Opens ∷ Says name ∷ first ++ rest)
 
--- `(NAME typed list of variables)` or the same with `- number` behind it, any number of times
+-- `(NAME typed list of variables)`, perhaps with `- number` after it, any number of times
 pub data HasFunctions : List Sign → Type 0 where
   end : HasFunctions (Closes ∷ [])
   function : {name : List ℕ} {first rest : List Sign} → IsFree name → Typed IsVariable false first
       → HasFunctions rest → HasFunctions (Opens ∷ Says name ∷ first ++ rest)
   number_function : {name : List ℕ} {first rest : List Sign} → IsFree name
-      → Typed IsVariable false first → HasFunctions rest → HasFunctions
-      (Opens ∷ Says name ∷ first ++ Says (codes "-") ∷ Says (codes "number") ∷ rest)
+      → Typed IsVariable false first → HasFunctions rest
+      → HasFunctions (Opens ∷ Says name ∷ first
+      ++ Says (codes "-") ∷ Says (codes "number") ∷ rest)
 
--- the sections of a domain in any order, those but the actions at most once, and the domain's `)`
+-- the sections of a domain in any order, each except the actions at most once, and the domain's `)`
 pub data HasSections : SectionsSeen → List Sign → Type 0 where
   end : {seen : SectionsSeen} → HasSections seen (Closes ∷ [])
   requirements : {seen : SectionsSeen} {first rest : List Sign} → seen.requirements ≡ false
@@ -192,7 +193,8 @@ pub data HasFacts : List Sign → Type 0 where
   end : HasFacts (Closes ∷ [])
   fact : {first rest : List Sign} → IsAtom IsName first → HasFacts rest → HasFacts (first ++ rest)
   value : {name : List ℕ} {first rest : List Sign} (text : List ℕ) → IsCostName name
-      → Row IsName first → IsNumber text → HasFacts rest → HasFacts (Opens ∷ Says (codes "=")
+      → Row IsName first → IsNumber text → HasFacts rest
+      → HasFacts (Opens ∷ Says (codes "=")
       ∷ Opens ∷ Says name ∷ first ++ Says text ∷ Closes ∷ rest)
   total_value : {text : List ℕ} {rest : List Sign} → IsNumber text → HasFacts rest
       → HasFacts (Opens ∷ Says (codes "=")
@@ -215,12 +217,14 @@ pub data HasStatements : StatementsSeen → List Sign → Type 0 where
       → IsCondition IsName One first → HasStatements (record seen { goal = true }) rest
       → HasStatements seen (Opens ∷ Says (codes ":goal") ∷ first ++ Closes ∷ rest)
   metric : {seen : StatementsSeen} {rest : List Sign} → seen.metric ≡ false
-      → HasStatements (record seen { metric = true }) rest → HasStatements seen
-      (Opens ∷ Says (codes ":metric") ∷ Says (codes "minimize") ∷ total (Closes ∷ rest))
+      → HasStatements (record seen { metric = true }) rest
+      → HasStatements seen (Opens ∷ Says (codes ":metric")
+      ∷ Says (codes "minimize") ∷ total (Closes ∷ rest))
 
 -- `(define (problem NAME) (:domain NAME) SECTION*)`
 pub data IsProblem : List Sign → Type 0 where
   problem : {name of : List ℕ} {rest : List Sign} → IsName name → IsName of
-      → HasStatements no_statements rest → IsProblem (Opens ∷ Says (codes "define")
+      → HasStatements no_statements rest
+      → IsProblem (Opens ∷ Says (codes "define")
       ∷ Opens ∷ Says (codes "problem") ∷ Says name ∷ Closes
       ∷ Opens ∷ Says (codes ":domain") ∷ Says of ∷ Closes ∷ rest)

@@ -1,5 +1,4 @@
--- What the words that were met are: the words of the text in written order, each with a part that
--- takes it.
+-- The words that a reading met: those of the text in written order, each with a part that takes it.
 use Rattle.std.specs.Prelude.{ℕ, ◌≢◌, List, [], ◌∷◌}
 use Rattle.pddl_text.specs.declared.place.Place.{Place}
 use Rattle.pddl_text.specs.Tokens.{Token}

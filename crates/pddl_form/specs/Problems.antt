@@ -1,4 +1,4 @@
--- Rows of the table: the sections of a problem. A row says what is due behind a word.
+-- Rows of the table: the sections of a problem. A row says what is due after a word.
 use Rattle.std.specs.Prelude.{not, true}
 use Rattle.pddl_form.specs.declared.parts.Listing.TheVariants as listing
 use Rattle.pddl_form.specs.declared.parts.StatementsSeen.{StatementsSeen}

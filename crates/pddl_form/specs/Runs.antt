@@ -16,22 +16,22 @@ use Rattle.pddl_form.specs.Faults.{fault, fault_at, fault_past}
 use Rattle.pddl_form.specs.Table.{after_word, after_open, after_close}
 use Rattle.pddl_form.specs.Words.{sort}
 
--- what is due behind a token, in the place of the part that was due
+-- what is due after a token, in place of the part that was due
 abbrev pub after : Part → Token → Next
 after p (token.Word text at from past) = after_word p (sort text)
 after p (token.Open at) = after_open p
 after p (token.Close at) = after_close p
 after p (token.Stray at) = next.Refused
 
--- the words that were met, with a further token: a word is noted with the part that it met
+-- the words that were met, and a further token: a word is noted with the part that takes it
 abbrev pub noted : Part → Token → List Met → List Met
 noted p (token.Word text at from past) met = met ++ record { part = p; text = text; at = at } ∷ []
 noted p (token.Open at) met = met
 noted p (token.Close at) met = met
 noted p (token.Stray at) met = met
 
--- where a reading is behind some tokens: parts are due, the first one first, and words were met; or
--- it stopped
+-- the state of a reading after some tokens: the parts that are due, in order, and the words that
+-- were met; or the fault at which it stopped
 pub data Run : Type 0 where
   Going : List Part → List Met → Run
   Stopped : TextFault → Run
@@ -43,14 +43,14 @@ goes (next.One p) due fault go = go (p ∷ due)
 goes (next.Two p q) due fault go = go (p ∷ q ∷ due)
 goes next.Refused due fault go = Stopped fault
 
--- where a reading is behind these tokens
+-- the state of a reading after these tokens
 abbrev pub run : List Part → List Met → List Token → Run
 run due met [] = Going due met
 run [] met (t ∷ tokens) = Stopped (fault_past t)
 run (p ∷ due) met (t ∷ tokens) =
     goes (after p t) due (fault_at p t tokens) (λ then. run then (noted p t met) tokens)
 
--- what a text gives that ends here, at this place
+-- what a text gives that ends at this place
 abbrev pub ends : Place → Run → Result (List Met) TextFault
 ends past (Going [] met) = Ok met
 ends past (Going (p ∷ due) met) = Err (fault past rule.Form [])

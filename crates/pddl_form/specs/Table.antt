@@ -1,6 +1,5 @@
--- The table of the grammars: what is due in the place of a part that took a token. A part that
--- takes
--- a token is followed by two parts at most, and what was due behind it stays due behind them.
+-- The table of the grammars: what is due in place of a part that took a token. That is two parts at
+-- most, and what was due after the part stays due after them.
 use Rattle.std.specs.Prelude.{◌&&◌, not, Bool, true, false}
 use Rattle.pddl_form.specs.declared.parts.Owner.TheVariants as owner
 use Rattle.pddl_form.specs.declared.parts.Part.{Part}
@@ -18,7 +17,7 @@ use Rattle.pddl_form.specs.Actions.{total_word, cost, cost_head, terms}
 use Rattle.pddl_form.specs.Problems.{problem_define, problem_word, of_domain_word, statement}
 use Rattle.pddl_form.specs.Problems.{fact_head, valued_head, goal_head, objects, metric}
 
--- what is due behind a word, where a part of a problem was due
+-- what is due after a word, where a part of a problem was due
 abbrev pub after_problem_word : Part → Sort → Next
 after_problem_word part.ProblemDefine s = problem_define s
 after_problem_word part.ProblemWord s = problem_word s
@@ -34,7 +33,7 @@ after_problem_word part.Objects s = objects s
 after_problem_word part.Metric s = metric s
 after_problem_word p s = next.Refused
 
--- what is due behind a word, in the place of the part that was due
+-- what is due after a word, in place of the part that was due
 abbrev pub after_word : Part → Sort → Next
 after_word part.DomainDefine s = domain_define s
 after_word part.DomainWord s = domain_word s
@@ -62,7 +61,7 @@ after_word part.Cost s = cost s
 after_word part.CostHead s = cost_head s
 after_word p s = after_problem_word p s
 
--- what is due behind a `(`, in the place of the part that was due
+-- what is due after a `(`, in place of the part that was due
 abbrev pub after_open : Part → Next
 after_open part.Domain = next.One part.DomainDefine
 after_open part.DomainHead = next.One part.DomainWord
@@ -114,6 +113,6 @@ may_close part.Objects = true
 may_close (part.Statements seen) = seen.init && seen.goal
 may_close p = false
 
--- what is due behind a `)`, in the place of the part that was due
+-- what is due after a `)`, in place of the part that was due
 abbrev pub after_close : Part → Next
 after_close p = only_if (may_close p) next.Nothing

@@ -1,3 +1,4 @@
+//! Rows of the table: actions, conditions, effects and costs.
 ghost use Rattle.std.specs.Prelude.{◌≡◌};
 ghost use Rattle.pddl_form.specs.Actions.{action_name, key, condition_head, effect_head, atom_head};
 ghost use Rattle.pddl_form.specs.Actions.{total_word, cost, cost_head, terms};

@@ -1,3 +1,4 @@
+//! Rows of the table: the sections of a domain.
 ghost use Rattle.std.specs.Prelude.{◌≡◌};
 ghost use Rattle.pddl_form.specs.Domains.{domain_define, domain_word, section, predicate_name};
 ghost use Rattle.pddl_form.specs.Domains.{function_name, function_tail, function_type};
@@ -33,7 +34,7 @@ pub fn domain_word(sort: Sort) -> Next
     }
 }
 
-/// Each section of a domain at most once, save the actions.
+/// Each section of a domain at most once, except the actions.
 pub fn section(seen: SectionsSeen, sort: Sort) -> Next
     ensures { result ≡ section seen sort }
 {
@@ -119,7 +120,7 @@ pub fn predicate_name(sort: Sort) -> Next
     )
 }
 
-/// The same of a function.
+/// `(NAME VARIABLES)` of a function, the name not reserved.
 pub fn function_name(sort: Sort) -> Next
     ensures { result ≡ function_name sort }
 {
@@ -131,7 +132,7 @@ pub fn function_name(sort: Sort) -> Next
     )
 }
 
-/// Behind a function: the dash before its type.
+/// After a function: the dash before its type.
 pub fn function_tail(sort: Sort) -> Next
     ensures { result ≡ function_tail sort }
 {

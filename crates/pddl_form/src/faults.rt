@@ -1,3 +1,4 @@
+//! The faults of tokens that a part doesn't take.
 ghost use Rattle.std.specs.Prelude.{◌≡◌};
 ghost use Rattle.pddl_form.specs.Faults.{is_negation, is_unsupported, is_number_due, is_declared};
 ghost use Rattle.pddl_form.specs.Faults.{word_rule, is_either, is_unsupported_list, fault};
@@ -19,7 +20,7 @@ fn is_negation(sort: Sort) -> bool
     }
 }
 
-/// Whether the word means a form that is out of scope, where the part is due.
+/// Whether the word begins a form that is out of scope, where the part is due.
 fn is_unsupported(part: Part, sort: Sort) -> bool
     ensures { result ≡ is_unsupported part sort }
 {
@@ -83,8 +84,8 @@ fn is_either(sort: Sort) -> bool
     }
 }
 
-/// Whether a list that begins with the word means a form that is out of scope, where the part takes
-/// no list.
+/// Whether a list that begins with the word is a form that is out of scope, where the part takes no
+/// list.
 pub fn is_unsupported_list(part: Part, sort: Sort) -> bool
     ensures { result ≡ is_unsupported_list part sort }
 {

@@ -1,3 +1,4 @@
+//! Laws of the grammars and of their readings.
 ghost use Rattle.std.specs.Prelude.{◌≡◌, ◌⊎◌, ◌↔◌, ℕ, List, Some, map};
 ghost use Rattle.pddl_text.specs.Forests.{tokens_of_all};
 ghost use Rattle.pddl_text.specs.Tokens.{Token};
@@ -10,22 +11,22 @@ ghost use Rattle.pddl_form.specs.declared.parts.Met.{Met};
 ghost use Rattle.pddl_form.specs.declared.parts.Part.{Part};
 ghost use Rattle.pddl_form.specs.declared.parts.Part.TheVariants as part;
 
-/// Each forest is a text of a grammar or leaves it somewhere first, never both, and only one of
-/// either.
+/// Each forest is a text of a grammar, with one list of words, or leaves it with one first fault,
+/// and never both.
 pub fn law_forms()
     ensures either { (start : Part) → IsWhole start → (forest : Forest) →
         ((words : List Met) × HasForm start (tokens_of_all forest.trees) words)
-        ⊎ ((told : TextFault) × LeavesForm start forest told) }
+        ⊎ ((found : TextFault) × LeavesForm start forest found) }
     ensures never_both { (start : Part) → IsWhole start →
-        (forest : Forest) (words : List Met) (told : TextFault) →
-        HasForm start (tokens_of_all forest.trees) words → LeavesForm start forest told → ⊥ }
+        (forest : Forest) (words : List Met) (found : TextFault) →
+        HasForm start (tokens_of_all forest.trees) words → LeavesForm start forest found → ⊥ }
     ensures one_list { (start : Part) → IsWhole start →
         (forest : Forest) (words others : List Met) →
         HasForm start (tokens_of_all forest.trees) words
         → HasForm start (tokens_of_all forest.trees) others → words ≡ others }
     ensures one_fault { (start : Part) → IsWhole start →
-        (forest : Forest) (told other : TextFault) →
-        LeavesForm start forest told → LeavesForm start forest other → told ≡ other }
+        (forest : Forest) (found other : TextFault) →
+        LeavesForm start forest found → LeavesForm start forest other → found ≡ other }
 {}
 
 /// The table's texts of domains are those of the grammar.

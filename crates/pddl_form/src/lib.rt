@@ -1,6 +1,5 @@
 //! The form of PDDL domains and problems: the words of a text with what each does there, or the
-//! first
-//! token that no text of the grammar has.
+//! first token that no text of the grammar has there.
 #![tactic(auto)]
 
 mod actions;

@@ -1,3 +1,4 @@
+//! Which words are names, and which are reserved or out of scope.
 ghost use Rattle.std.specs.Prelude.{◌≡◌};
 ghost use Rattle.pddl_form.specs.Names.{is_reserved, is_free_sort, is_name_sort, is_term_sort};
 ghost use Rattle.pddl_form.specs.Names.{is_condition_word, is_effect_word, is_section_word};

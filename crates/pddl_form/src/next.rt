@@ -1,10 +1,11 @@
+//! What the table puts in place of a part.
 ghost use Rattle.std.specs.Prelude.{◌≡◌};
 ghost use Rattle.pddl_form.specs.Rows.{only_if};
 ghost use Rattle.pddl_form.specs.declared.next.Next.TheVariants as next;
 
 use crate::parts::Part;
 
-/// What is due in the place of a part that took a token.
+/// What is due in place of a part that took a token.
 #[derive(Clone, Copy)]
 pub enum Next {
     Nothing,

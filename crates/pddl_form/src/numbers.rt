@@ -1,7 +1,8 @@
+//! The numbers that words spell.
 ghost use Rattle.std.specs.Prelude.{◌≡◌, ◌≤◌, length};
 ghost use Rattle.pddl_form.specs.Numbers.{with_digit, whole_number, point_at, are_zeros, number};
 
-/// The number with a digit behind it, unless the byte is none or the number passes 4294967295.
+/// The number with one more digit, unless the byte isn't a digit or the number passes 4294967295.
 fn with_digit(number: u32, byte: u8) -> Option<u32>
     ensures { result ≡ with_digit number byte }
 {
@@ -33,7 +34,7 @@ fn whole_number(digits: &[u8]) -> Option<u32>
     Some(number)
 }
 
-/// Where the first point of a text stands, or else its length.
+/// The place of the first point of a text, or else its length.
 fn point_at(text: &[u8]) -> usize
     ensures at { result ≡ point_at text.now }
     ensures within { result ≤ length text.now }
@@ -52,9 +53,8 @@ fn are_zeros(bytes: &[u8]) -> bool
     bytes.iter().all(|byte| *byte == b'0')
 }
 
-/// The number that a word spells: digits, or digits, a point and zeros or nothing. The digits
-/// before
-/// the point spell 0 to 4294967295.
+/// The number that a word spells: digits, perhaps with a point and any zeros after them. The digits
+/// before the point spell 0 to 4294967295.
 pub fn number_of(text: &[u8]) -> Option<u32>
     ensures { result ≡ number text.now }
 {

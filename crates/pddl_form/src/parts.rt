@@ -1,7 +1,8 @@
+//! The parts of the grammars, and the words of a text with the parts that took them.
 use mre_base::Text;
 use pddl_text::Place;
 
-/// Whose listing a typed list of names is.
+/// What a typed list of names lists.
 #[derive(Clone, Copy, Debug)]
 pub enum Listing {
     Types,
@@ -9,7 +10,7 @@ pub enum Listing {
     Objects,
 }
 
-/// Whose parameters a typed list of variables is.
+/// Whose parameters a typed list of variables declares.
 #[derive(Clone, Copy, Debug)]
 pub enum Owner {
     Predicate,
@@ -17,7 +18,7 @@ pub enum Owner {
     Action,
 }
 
-/// The sections of a domain that have stood, of those that may stand once.
+/// The sections of a domain that have occurred, of those that may occur only once.
 #[derive(Clone, Copy, Debug)]
 pub struct SectionsSeen {
     pub requirements: bool,
@@ -27,7 +28,7 @@ pub struct SectionsSeen {
     pub functions: bool,
 }
 
-/// The keys of an action that have stood.
+/// The keys of an action that have occurred.
 #[derive(Clone, Copy, Debug)]
 pub struct KeysSeen {
     pub parameters: bool,
@@ -35,7 +36,7 @@ pub struct KeysSeen {
     pub effect: bool,
 }
 
-/// The sections of a problem that have stood.
+/// The sections of a problem that have occurred.
 #[derive(Clone, Copy, Debug)]
 pub struct StatementsSeen {
     pub requirements: bool,
@@ -45,9 +46,8 @@ pub struct StatementsSeen {
     pub metric: bool,
 }
 
-/// A part of the grammar that is due. A part that names no parenthesis begins inside its list and
-/// goes
-/// up to the list's `)`, or is the one word that its name says.
+/// A part of the grammar that is due. A part that isn't shown with a `(` begins inside its list and
+/// goes up to the list's `)`, or is the one word that its name says.
 #[derive(Clone, Copy, Debug)]
 pub enum Part {
     /// `(define (domain NAME) SECTION*)`
@@ -66,17 +66,17 @@ pub enum Part {
     Words,
     /// Groups of a typed list of names.
     Names { listing: Listing },
-    /// The same behind a name of a group.
+    /// The same after a name of a group.
     NamesMore { listing: Listing },
-    /// The type behind the dash of a group of names.
+    /// The type after the dash of a group of names.
     NameType { listing: Listing },
     Predicates,
     PredicateName,
     /// Groups of a typed list of variables.
     Variables { owner: Owner },
-    /// The same behind a variable of a group.
+    /// The same after a variable of a group.
     VariablesMore { owner: Owner },
-    /// The type behind the dash of a group of variables.
+    /// The type after the dash of a group of variables.
     VariableType { owner: Owner },
     Functions,
     FunctionName,
@@ -91,13 +91,13 @@ pub enum Part {
     Condition,
     ConditionHead,
     Conditions,
-    /// Names and variables behind the head of an atom or a cost.
+    /// Names and variables after the head of an atom or a cost.
     Terms,
     /// An effect: `()`, `(and EFF*)`, an atom, `(not ATOM)` or `(increase (total-cost) COST)`.
     Effect,
     EffectHead,
     Effects,
-    /// The atom of `(not ATOM)`, and the `)` behind it.
+    /// The atom of `(not ATOM)`, and the `)` after it.
     Negated,
     NegatedHead,
     /// `(total-cost)`
@@ -113,7 +113,7 @@ pub enum Part {
     ProblemHead,
     ProblemWord,
     ProblemName,
-    /// `(:domain NAME)`, and the sections behind it.
+    /// `(:domain NAME)`, and the sections after it.
     OfDomain,
     OfDomainWord,
     OfDomainName,
@@ -123,22 +123,22 @@ pub enum Part {
     /// The items of `:init`.
     Facts,
     FactHead,
-    /// `(total-cost)` or `(NAME NAME*)` behind a `=`.
+    /// `(total-cost)` or `(NAME NAME*)` after a `=`.
     Valued,
     ValuedHead,
-    /// A number, and the `)` behind it.
+    /// A number, and the `)` after it.
     Number,
     /// The condition of `:goal`, and the section's `)`.
     Goal,
     GoalHead,
     Goals,
-    /// Names behind the head of an atom or a value of a problem.
+    /// Names after the head of an atom or a value of a problem.
     Objects,
     /// `minimize (total-cost)`, and the `)` of the section.
     Metric,
 }
 
-/// A word of a text with the part that it met, which tells what the word does there.
+/// A word of a text with the part that took it, which says what the word does there.
 #[derive(Debug, Drop)]
 pub struct Met {
     pub part: Part,

@@ -1,3 +1,4 @@
+//! Rows of the table: the sections of a problem.
 ghost use Rattle.std.specs.Prelude.{◌≡◌};
 ghost use Rattle.pddl_form.specs.Problems.{problem_define, problem_word, of_domain_word, statement};
 ghost use Rattle.pddl_form.specs.Problems.{fact_head, valued_head, goal_head, objects, metric};

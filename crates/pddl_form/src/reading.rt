@@ -1,3 +1,4 @@
+//! Reads a forest as a domain or a problem, part by part.
 ghost use Rattle.std.specs.Prelude.{◌≡◌, ◌∷◌, ◌++◌, [], ℕ, List as ListOf, reverse, IfOk, OnOk};
 ghost use Rattle.std.specs.Prelude.{MatchOption, Some, None, map, if◌then◌else◌};
 ghost use Rattle.std.specs.List.{AllByRecursion};
@@ -24,14 +25,14 @@ use mre_base::{List, NoMemory, Text};
 use pddl_text::{Forest, Place, ReadStop, TextRule, Tree};
 use std::alloc::Global;
 
-/// A text that is being read: the parts that are due, the first one last, and the words so far.
+/// A text that is being read: the parts that are due, the next one last, and the words so far.
 #[derive(Drop)]
 pub struct Reading {
     pub due: Vec<Part>,
     pub met: List<Met>,
 }
 
-/// The word that a tree is.
+/// The word, if the tree is one.
 fn head_of_tree(tree: &Tree) -> Option<(&Text, Place)>
     ensures { MatchOption result
         ((tokens : ListOf token.Token) → head (tokens_of tree.now ++ tokens) ≡ None)
@@ -60,7 +61,7 @@ fn head_of(list: &List<Tree>) -> Option<(&Text, Place)>
     }
 }
 
-/// What is told of the `(` of this list, which the part doesn't take.
+/// The fault of the `(` of this list, which the part doesn't take.
 fn list_stop(alloc: Global, part: Part, at: Place, list: &List<Tree>) -> ReadStop
     ensures { (close : place.Place) (tokens : ListOf token.Token) → Names result
         (open_fault part at (head (tokens_of_all list.now ++ (token.Close close ∷ tokens)))) }
@@ -91,8 +92,8 @@ impl Reading {
         })
     }
 
-    /// Puts what is due in a part's place on the parts that are due. Answers whether anything may
-    /// be.
+    /// Adds what is due in place of a part to the parts that are due. Answers whether the part took
+    /// its token.
     fn put(&mut self, next: Next) -> Result<bool, NoMemory>
         ensures ok { IfOk result (λ taken. (stop : faults.TextFault) (go : ListOf PartOf → Run) →
             goes next (reverse self.old.due.items) stop go
@@ -118,8 +119,8 @@ impl Reading {
     fn word(&mut self, alloc: Global, text: &Text, at: Place) -> Result<(), ReadStop>
         ensures ok { OnOk result ((from past : ℕ) (tokens : ListOf token.Token) →
             runs self.old (token.Word text.now at from past ∷ tokens) ≡ runs self.new tokens) }
-        ensures fault { IfFault result (λ told. (from past : ℕ) (tokens : ListOf token.Token) →
-            runs self.old (token.Word text.now at from past ∷ tokens) ≡ Stopped told) }
+        ensures fault { IfFault result (λ found. (from past : ℕ) (tokens : ListOf token.Token) →
+            runs self.old (token.Word text.now at from past ∷ tokens) ≡ Stopped found) }
     {
         let Some(part) = self.due.pop() else {
             return Err(fault(alloc, at, TextRule::Form, text.as_str()));
@@ -137,10 +138,10 @@ impl Reading {
     fn open(&mut self, alloc: Global, at: Place, list: &List<Tree>) -> Result<(), ReadStop>
         ensures ok { OnOk result ((tokens : ListOf token.Token) →
             runs self.old (token.Open at ∷ tokens) ≡ runs self.new tokens) }
-        ensures fault { IfFault result (λ told.
+        ensures fault { IfFault result (λ found.
             (close : place.Place) (tokens : ListOf token.Token) → runs self.old
             (token.Open at ∷ (tokens_of_all list.now ++ (token.Close close ∷ tokens)))
-            ≡ Stopped told) }
+            ≡ Stopped found) }
     {
         let Some(part) = self.due.pop() else {
             return Err(fault(alloc, at, TextRule::Form, "("));
@@ -155,8 +156,8 @@ impl Reading {
     fn close(&mut self, alloc: Global, at: Place) -> Result<(), ReadStop>
         ensures ok { OnOk result ((tokens : ListOf token.Token) →
             runs self.old (token.Close at ∷ tokens) ≡ runs self.new tokens) }
-        ensures fault { IfFault result (λ told. (tokens : ListOf token.Token) →
-            runs self.old (token.Close at ∷ tokens) ≡ Stopped told) }
+        ensures fault { IfFault result (λ found. (tokens : ListOf token.Token) →
+            runs self.old (token.Close at ∷ tokens) ≡ Stopped found) }
     {
         let Some(part) = self.due.pop() else {
             return Err(fault(alloc, at, TextRule::Form, ")"));
@@ -179,9 +180,9 @@ impl Reading {
         ensures ok { OnOk result ((tokens : ListOf token.Token) → runs self.old
             (token.Open at ∷ (tokens_of_all list.now ++ (token.Close close ∷ tokens)))
             ≡ runs self.new tokens) }
-        ensures fault { IfFault result (λ told. (tokens : ListOf token.Token) → runs self.old
+        ensures fault { IfFault result (λ found. (tokens : ListOf token.Token) → runs self.old
             (token.Open at ∷ (tokens_of_all list.now ++ (token.Close close ∷ tokens)))
-            ≡ Stopped told) }
+            ≡ Stopped found) }
     {
         match self.open(alloc, at, list) {
             Ok(()) => {}
@@ -198,8 +199,8 @@ impl Reading {
     fn tree(&mut self, alloc: Global, tree: &Tree) -> Result<(), ReadStop>
         ensures ok { OnOk result ((tokens : ListOf token.Token) →
             runs self.old (tokens_of tree.now ++ tokens) ≡ runs self.new tokens) }
-        ensures fault { IfFault result (λ told. (tokens : ListOf token.Token) →
-            runs self.old (tokens_of tree.now ++ tokens) ≡ Stopped told) }
+        ensures fault { IfFault result (λ found. (tokens : ListOf token.Token) →
+            runs self.old (tokens_of tree.now ++ tokens) ≡ Stopped found) }
     {
         match tree {
             Tree::Word { text, at, .. } => self.word(alloc, text, *at),
@@ -207,13 +208,13 @@ impl Reading {
         }
     }
 
-    /// Takes trees, one behind another.
+    /// Takes trees, one after another.
     #[cycle(tree)]
     fn trees(&mut self, alloc: Global, list: &List<Tree>) -> Result<(), ReadStop>
         ensures ok { OnOk result ((tokens : ListOf token.Token) →
             runs self.old (tokens_of_all list.now ++ tokens) ≡ runs self.new tokens) }
-        ensures fault { IfFault result (λ told. (tokens : ListOf token.Token) →
-            runs self.old (tokens_of_all list.now ++ tokens) ≡ Stopped told) }
+        ensures fault { IfFault result (λ found. (tokens : ListOf token.Token) →
+            runs self.old (tokens_of_all list.now ++ tokens) ≡ Stopped found) }
     {
         for place in 0..list.len() {
             match self.tree(alloc, list.item(place)) {
@@ -236,7 +237,7 @@ impl Reading {
     }
 }
 
-/// The words of a text with the part that each met, where this part is the whole text.
+/// The words of a text, each with the part that took it, where this part is the whole text.
 fn read_form(alloc: Global, start: Part, forest: &Forest) -> Result<List<Met>, ReadStop>
     ensures { Gives result (form_of start forest.now) }
 {
@@ -247,22 +248,21 @@ fn read_form(alloc: Global, start: Part, forest: &Forest) -> Result<List<Met>, R
     }
 }
 
-/// The words of a domain's text, in written order and each with what it does there, or the first
-/// token
-/// that no domain has behind the tokens before it.
+/// The words of a domain's text in written order, each with what it does there, or the first token
+/// that no domain has after the tokens before it.
 pub fn read_domain_form(alloc: Global, forest: &Forest) -> Result<List<Met>, ReadStop>
-    // What is answered is the words of the text, or the first place where it is none.
+    // The answer is the words of the text, or the fault where it first leaves the grammar.
     ensures ok { IfOk result (HasForm due.Domain (tokens_of_all forest.now.trees)) }
     ensures fault { IfFault result (LeavesForm due.Domain forest.now) }
 
-    // The words of a text are answered, and so is the first place where there is none.
+    // The words of a text in the grammar are the answer, and so is the first fault of any other.
     ensures succeeds { (words : ListOf parts.Met) →
         HasForm due.Domain (tokens_of_all forest.now.trees) words → AnswersOk result words }
-    ensures refuses { (told : faults.TextFault) →
-        LeavesForm due.Domain forest.now told → AnswersFault result told }
+    ensures refuses { (found : faults.TextFault) →
+        LeavesForm due.Domain forest.now found → AnswersFault result found }
     ensures reads { Gives result (form_of due.Domain forest.now) }
 
-    // These are all words of the text in written order, and each part takes its word.
+    // These are all the words of the text in written order, and each part takes its word.
     ensures words { IfOk result (λ words.
         map word_of words ≡ words_in (tokens_of_all forest.now.trees)) }
     ensures taken { IfOk result (λ words. AllByRecursion IsTaken words) }
@@ -270,20 +270,20 @@ pub fn read_domain_form(alloc: Global, forest: &Forest) -> Result<List<Met>, Rea
     read_form(alloc, Part::Domain, forest)
 }
 
-/// The same of a problem's text.
+/// The same for a problem's text.
 pub fn read_problem_form(alloc: Global, forest: &Forest) -> Result<List<Met>, ReadStop>
-    // What is answered is the words of the text, or the first place where it is none.
+    // The answer is the words of the text, or the fault where it first leaves the grammar.
     ensures ok { IfOk result (HasForm due.Problem (tokens_of_all forest.now.trees)) }
     ensures fault { IfFault result (LeavesForm due.Problem forest.now) }
 
-    // The words of a text are answered, and so is the first place where there is none.
+    // The words of a text in the grammar are the answer, and so is the first fault of any other.
     ensures succeeds { (words : ListOf parts.Met) →
         HasForm due.Problem (tokens_of_all forest.now.trees) words → AnswersOk result words }
-    ensures refuses { (told : faults.TextFault) →
-        LeavesForm due.Problem forest.now told → AnswersFault result told }
+    ensures refuses { (found : faults.TextFault) →
+        LeavesForm due.Problem forest.now found → AnswersFault result found }
     ensures reads { Gives result (form_of due.Problem forest.now) }
 
-    // These are all words of the text in written order, and each part takes its word.
+    // These are all the words of the text in written order, and each part takes its word.
     ensures words { IfOk result (λ words.
         map word_of words ≡ words_in (tokens_of_all forest.now.trees)) }
     ensures taken { IfOk result (λ words. AllByRecursion IsTaken words) }

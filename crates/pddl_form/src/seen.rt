@@ -1,3 +1,4 @@
+//! The sections and keys that have occurred so far.
 ghost use Rattle.std.specs.Prelude.{◌≡◌};
 ghost use Rattle.pddl_form.specs.Rows.{no_sections, no_keys, no_statements, have_all_stood};
 
@@ -37,7 +38,7 @@ pub fn no_statements() -> StatementsSeen
     }
 }
 
-/// Whether each section of a problem has stood, so that no further one may come.
+/// Whether each section of a problem has occurred, so that no further one may come.
 pub fn have_all_stood(seen: StatementsSeen) -> bool
     ensures { result ≡ have_all_stood seen }
 {

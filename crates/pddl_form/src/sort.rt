@@ -1,3 +1,4 @@
+//! The sorts of words that the grammars distinguish.
 /// What a word is to the grammar: one of the grammar's own words, or what its bytes make it.
 #[derive(Clone, Copy, Debug)]
 pub enum Sort {
@@ -95,11 +96,11 @@ pub enum Sort {
     Constraints,
     /// `:length`
     Length,
-    /// A whole number from 0 to 4294967295, perhaps with a point and zeros behind it.
+    /// A whole number from 0 to 4294967295, perhaps with a point and any zeros after it.
     Numeral,
     /// Another word whose first byte is a letter, a digit or `_`.
     Name,
-    /// A `?` and at least one byte behind it.
+    /// A `?` followed by at least one byte.
     Variable,
     /// Any other word.
     Other,

@@ -1,3 +1,4 @@
+//! The table of the grammars: what is due after each part and token.
 ghost use Rattle.std.specs.Prelude.{◌≡◌};
 ghost use Rattle.pddl_form.specs.Table.{after_problem_word, after_word, after_open, may_close};
 ghost use Rattle.pddl_form.specs.Table.{after_close};
@@ -20,7 +21,7 @@ use crate::seen::{have_all_stood, no_statements};
 use crate::sort::Sort;
 use crate::typed::{names, names_more, variables, variables_more};
 
-// What is due behind a word where a part of a problem is due.
+// What is due after a word where a part of a problem was due.
 fn after_problem_word(part: Part, sort: Sort) -> Next
     ensures { result ≡ after_problem_word part sort }
 {
@@ -41,7 +42,7 @@ fn after_problem_word(part: Part, sort: Sort) -> Next
     }
 }
 
-/// What is due behind a word, in the place of the part.
+/// What is due after a word, in place of the part.
 pub fn after_word(part: Part, sort: Sort) -> Next
     ensures { result ≡ after_word part sort }
 {
@@ -74,7 +75,7 @@ pub fn after_word(part: Part, sort: Sort) -> Next
     }
 }
 
-/// What is due behind a `(`, in the place of the part.
+/// What is due after a `(`, in place of the part.
 pub fn after_open(part: Part) -> Next
     ensures { result ≡ after_open part }
 {
@@ -142,7 +143,7 @@ pub fn may_close(part: Part) -> bool
     }
 }
 
-/// What is due behind a `)`, in the place of the part.
+/// What is due after a `)`, in place of the part.
 pub fn after_close(part: Part) -> Next
     ensures { result ≡ after_close part }
 {

@@ -1,3 +1,4 @@
+//! Rows of the table: typed lists.
 ghost use Rattle.std.specs.Prelude.{◌≡◌};
 ghost use Rattle.pddl_form.specs.Typed.{names, names_more, variables, variables_more};
 
@@ -6,14 +7,14 @@ use crate::next::{Next, one, only_if, two};
 use crate::parts::{Listing, Owner, Part};
 use crate::sort::Sort;
 
-/// A name of a typed list, where no group goes on.
+/// A name that begins a group of a typed list.
 pub fn names(listing: Listing, sort: Sort) -> Next
     ensures { result ≡ names listing sort }
 {
     only_if(is_name_sort(sort), one(Part::NamesMore { listing }))
 }
 
-/// Behind a name of a typed list: a further name of the group, or the dash before its type.
+/// After a name of a typed list: a further name of the group, or the dash before its type.
 pub fn names_more(listing: Listing, sort: Sort) -> Next
     ensures { result ≡ names_more listing sort }
 {
@@ -23,7 +24,7 @@ pub fn names_more(listing: Listing, sort: Sort) -> Next
     }
 }
 
-/// A variable of a typed list, where no group goes on.
+/// A variable that begins a group of a typed list.
 pub fn variables(owner: Owner, sort: Sort) -> Next
     ensures { result ≡ variables owner sort }
 {
@@ -33,7 +34,7 @@ pub fn variables(owner: Owner, sort: Sort) -> Next
     }
 }
 
-/// Behind a variable: a further one of the group, or the dash before its type.
+/// After a variable: a further one of the group, or the dash before its type.
 pub fn variables_more(owner: Owner, sort: Sort) -> Next
     ensures { result ≡ variables_more owner sort }
 {

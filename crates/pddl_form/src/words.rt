@@ -1,3 +1,4 @@
+//! The sort of a word, from its text.
 ghost use Rattle.std.specs.Prelude.{◌≡◌};
 ghost use Rattle.std.specs.Str.{bytes_eq};
 ghost use Rattle.pddl_form.specs.Words.{meaning, joining, changing, comparing, naming};
@@ -180,7 +181,7 @@ fn is_name(text: &[u8]) -> bool
     }
 }
 
-/// Whether there are two bytes at least, the first a `?`.
+/// Whether there are at least two bytes, the first a `?`.
 fn is_variable(text: &[u8]) -> bool
     ensures { result ≡ is_variable text.now }
 {

@@ -14,10 +14,11 @@ use Rattle.std.proofs.lemmas.List.{length-map, take-append-drop, drop-take, take
 use Rattle.std.proofs.lemmas.List.Folds.{length-prefix_len}
 use Rattle.std.proofs.lemmas.List.Sums.{prefix_len-le-length}
 use Rattle.std.proofs.lemmas.Map.Text.{is_eq-slice_cmp}
-use Rattle.std.proofs.lemmas.Option.{slice_get_within}
+use Rattle.std.proofs.lemmas.Option.{slice_get_within, slice_get_past}
 use Rattle.mre_base.specs.declared.text.Text.{Text}
 use Rattle.model_kit.proofs.Alike.{same_numbers-decides}
 use Rattle.mre_base.proofs.Loops.{drop_item}
+use Rattle.mre_base.proofs.Tests.{same_test}
 use Rattle.pddl_form.specs.Numbers.{number}
 use Rattle.pddl_names.specs.declared.calls.Call.{Call}
 use Rattle.pddl_names.specs.declared.role.Role.{Role}
@@ -28,9 +29,8 @@ use Rattle.pddl_names.specs.Groups.{AreTermCounts}
 use Rattle.pddl_names.specs.Listings.{Signed, Given, is_term, terms_behind, past_terms, number_behind, with_given, values_in}
 use Rattle.pddl_names.specs.Naming.{same_call, is_other_number}
 use Rattle.pddl_names.specs.Tables.{call_at, value_at, first_value, AreFirstValues}
-use Rattle.pddl_names.proofs.PlaceLemmas.{bools}
 use Rattle.pddl_names.proofs.RoundLemmas.{between_split}
-use Rattle.pddl_names.proofs.ScanLemmas.{index_read, past_end}
+use Rattle.pddl_names.proofs.ScanLemmas.{index_read}
 use Rattle.pddl_names.proofs.TreeLemmas.{same_back}
 
 -- ---- keys
@@ -164,7 +164,7 @@ get_drop : {X : Type 0} (xs : List X) (n k : ℕ) → slice_get (drop n xs) k �
 get_drop xs zero k = let same : k ≡ 0 + k = omega arith in ap (slice_get xs) same
 get_drop {X = X} [] (suc n) k =
     let nil : List X = [] in
-    past_end nil k (omega arith) ∙ sym (past_end nil (suc n + k) (omega arith))
+    slice_get_past nil k (omega arith) ∙ sym (slice_get_past nil (suc n + k) (omega arith))
 get_drop (x ∷ xs) (suc n) k = let next : suc n + k ≡ suc (n + k) = omega arith in get_drop xs n k ∙ ap (slice_get (x ∷ xs)) (sym next)
 
 pub number_read : (words : List Word) (n : ℕ) → number_behind (drop n words) ≡ unwrap_or (option_and_then (λ (w : Word). number w.text) (slice_get words (n + length (terms_behind (drop n words))))) 0
@@ -193,7 +193,7 @@ module _ (w : Word) (rest : List Word) (is : w.role ≡ role.Value) where
   first_here from = (λ i. value_at (is i) from (same_self call i) (first_value (same_call call) (from + 1) rest))
 
   lt_false : (n m : ℕ) → m ≤ n → nat_lt n m ≡ false
-  lt_false n m le = bools (nat_lt n m) false (λ e. let lt = (Decides-ltb n m).0 e in absurd (omega (arith, le, lt))) (λ e. absurd (true≢false (sym e)))
+  lt_false n m le = same_test (nat_lt n m) false (λ e. let lt = (Decides-ltb n m).0 e in absurd (omega (arith, le, lt))) (λ e. absurd (true≢false (sym e)))
 
   passed : (v : Word) (before : List Word) (from : ℕ) → FirstOf before (from + 1)
       → first_value (same_call call) from (v ∷ before ++ w ∷ rest) ≡ first_value (same_call call) (from + 1) (before ++ w ∷ rest)
@@ -316,7 +316,7 @@ module _ (words : List Word) (place : ℕ) (w : Word) (at : slice_get words plac
         sym (ap (λ o. is_other_number o (number_behind rest)) (before_by false (not_before of_call.first (0 + length front) past)))
       where
         not_before : (n m : ℕ) → m ≤ n → nat_lt n m ≡ false
-        not_before n m le = bools (nat_lt n m) false (λ e. let lt = (Decides-ltb n m).0 e in absurd (omega (arith, le, lt))) (λ e. absurd (true≢false (sym e)))
+        not_before n m le = same_test (nat_lt n m) false (λ e. let lt = (Decides-ltb n m).0 e in absurd (omega (arith, le, lt))) (λ e. absurd (true≢false (sym e)))
 
     pub some_given : (first : ℕ) → first ≡ slice_index values place → first < place
         → lookup (same_call (call_at w rest)) (values_in front) ≡ Some (number_behind (drop (first + 1) front))

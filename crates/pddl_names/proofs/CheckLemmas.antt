@@ -17,8 +17,8 @@ use Rattle.pddl_names.specs.FirstNames.{first_rule, fault_or, first_broken}
 use Rattle.pddl_names.specs.Listings.{Declared, declared, is_term}
 use Rattle.pddl_names.specs.Naming.{breaks, is_action, is_twice, is_cycle, is_undeclared, is_wrong_arity, is_wrong_type, IsNamed, IsMisnamed}
 use Rattle.pddl_names.specs.Params.{is_action_name, AreParamPlaces}
-use Rattle.pddl_names.specs.Tables.{AreTermsFrom, IsRound, head_at}
-use Rattle.pddl_names.specs.declared.name_tables.Round.{Round}
+use Rattle.pddl_names.specs.Tables.{AreTermsFrom, IsCurrentAction, head_at}
+use Rattle.pddl_names.specs.declared.name_tables.CurrentAction.{CurrentAction}
 use Rattle.pddl_names.specs.Reading.{Answers}
 use Rattle.pddl_names.proofs.NamingLemmas.{named_of, misnamed_of}
 use Rattle.pddl_names.proofs.ParamTypes.{action_name}
@@ -28,33 +28,33 @@ use Rattle.pddl_names.proofs.RoundLemmas.{words_on, words_anew, none_more, head_
 -- ---- where a word is
 
 module _ (words : List Word) where
-  pub round_start : (round : Round) → round.start ≡ 0 → AreParamPlaces words 0 round.params → IsRound words 0 round
-  round_start round start params = record {
+  pub action_at_start : (action : CurrentAction) → action.start ≡ 0 → AreParamPlaces words 0 action.params → IsCurrentAction words 0 action
+  action_at_start action start params = record {
     within = omega (arith, start);
     words_are = sym (between_none words 0) ∙ ap (λ n. between n 0 words) (sym start);
     none = ap (λ n. list_any is_action (between n 0 words)) start ∙ ap (list_any is_action) (between_none words 0);
-    params = subst (λ n. AreParamPlaces words n round.params) (sym start) params;
+    params = subst (λ n. AreParamPlaces words n action.params) (sym start) params;
   }
 
   module _ (place : ℕ) (w : Word) (at : slice_get words place ≡ Some w) where
-    pub round_on : (round : Round) → IsRound words place round → is_action_name w.role ≡ false → IsRound words (place + 1) round
-    round_on round is other =
+    pub action_goes_on : (action : CurrentAction) → IsCurrentAction words place action → is_action_name w.role ≡ false → IsCurrentAction words (place + 1) action
+    action_goes_on action is other =
         let no = action_name w ∙ other in
         record {
           within = omega (arith, is.within);
-          words_are = words_on words place w at round.start is.within no is.words_are;
-          none = none_more is_action words round.start place is.within w at no is.none;
+          words_are = words_on words place w at action.start is.within no is.words_are;
+          none = none_more is_action words action.start place is.within w at no is.none;
           params = is.params;
         }
 
-    pub round_anew : (round : Round) → is_action_name w.role ≡ true → round.start ≡ place + 1 → AreParamPlaces words (place + 1) round.params → IsRound words (place + 1) round
-    round_anew round is start params =
+    pub action_begins : (action : CurrentAction) → is_action_name w.role ≡ true → action.start ≡ place + 1 → AreParamPlaces words (place + 1) action.params → IsCurrentAction words (place + 1) action
+    action_begins action is start params =
         let yes = action_name w ∙ is in
         record {
           within = omega (arith, start);
           words_are = words_anew words place w at yes ∙ ap (λ n. between n (place + 1) words) (sym start);
           none = ap (λ n. list_any is_action (between n (place + 1) words)) start ∙ ap (list_any is_action) (between_none words (place + 1));
-          params = subst (λ n. AreParamPlaces words n round.params) (sym start) params;
+          params = subst (λ n. AreParamPlaces words n action.params) (sym start) params;
         }
 
     from_by : (from : ℕ) (b : Bool) → is_term w ≡ b → AreTermsFrom words place from → AreTermsFrom words (place + 1) (if b then from else place + 1)

@@ -9,6 +9,7 @@ use Rattle.std.proofs.lemmas.List.{length-map}
 use Rattle.std.proofs.lemmas.List.FromFn.{get_or-map-range_with_len, length-range_with_len}
 use Rattle.std.proofs.lemmas.Map.Keys.{IsDistinct-from_apart}
 use Rattle.std.proofs.lemmas.Map.Made.{length-le_from_is_member}
+use Rattle.model_kit.proofs.StateLemmas.{list_any-map}
 use Rattle.model_kit.proofs.TypeLemmas.{some_below}
 use Rattle.pddl_names.specs.Forests.{climb}
 use Rattle.pddl_names.proofs.GrowLemmas.{climb_add}
@@ -29,10 +30,6 @@ least_to p (suc n) =
 
 least : (p : ℕ → Bool) (n : ℕ) → p n ≡ true → (m : ℕ) × IsLeast p m
 least p n e = ⊎_elim (λ found. found) (λ none. let lt : n < suc n = omega arith in absurd (true≢false (sym e ∙ none n lt))) (least_to p (suc n))
-
-any_map : {X Y : Type 0} (t : Y → Bool) (f : X → Y) (xs : List X) → list_any t (map f xs) ≡ list_any (λ x. t (f x)) xs
-any_map t f [] = refl
-any_map t f (x ∷ xs) = ap (λ b. t (f x) || b) (any_map t f xs)
 
 module _ (ups L : List ℕ) (a b : ℕ) (listed : (k : ℕ) → list_any (λ x. climb ups (suc k) a == x) L ≡ true) where
   abbrev test : ℕ → Bool
@@ -66,6 +63,6 @@ module _ (ups L : List ℕ) (a b : ℕ) (listed : (k : ℕ) → list_any (λ x. 
       false_from_ne_true (nat_eq (get_or (way m) i d) (get_or (way m) j d))
       (λ e. shorter m i j found.1 early last (sym (way_at m i d (omega (arith, early, last))) ∙ eqb-true (get_or (way m) i d) (get_or (way m) j d) e ∙ way_at m j d last))) in
       let few = length-le_from_is_member nat_eq_equiv (way m) L apart
-      (λ q e. let k = some_below (λ k. nat_eq q (climb ups (suc k) a)) m (sym (any_map (nat_eq q) (λ k. climb ups (suc k) a) (range_with_len 0 m)) ∙ e) in
+      (λ q e. let k = some_below (λ k. nat_eq q (climb ups (suc k) a)) m (sym (list_any-map (nat_eq q) (λ k. climb ups (suc k) a) (range_with_len 0 m)) ∙ e) in
       ap (λ x. list_any (nat_eq x) L) (eqb-true q (climb ups (suc k.0) a) k.2) ∙ listed k.0) in
       (m, omega (arith, few, way_long m), eqb-true (climb ups m a) b found.1.passes)

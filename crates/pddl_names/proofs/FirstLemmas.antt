@@ -5,6 +5,7 @@ use Rattle.std.specs.Option.{option_map, option_map_or}
 use Rattle.std.specs.Cmp.Lexicographic.{pointwise}
 use Rattle.std.proofs.lemmas.Bool.{true≢false, eqb-true, eq-eqb}
 use Rattle.mre_base.specs.declared.text.Text.{Text}
+use Rattle.mre_base.proofs.Options.{same_some}
 use Rattle.pddl_text.specs.declared.fault.TextFault.{TextFault}
 use Rattle.pddl_text.specs.declared.fault.TextRule.{TextRule}
 use Rattle.pddl_text.specs.declared.fault.TextRule.TheVariants as rule
@@ -18,7 +19,7 @@ use Rattle.pddl_names.specs.Numbers.{IsNumberOf, IsUndeclared, number_of, entry_
 use Rattle.pddl_names.specs.PlanNames.{AreObjects, IsStep, HasWord, BeginsWith, Breaks, action, object, arity, type, rank, IsFirstIn}
 use Rattle.pddl_names.specs.Reading.{broken_at, with_value, with_number, objects_from, params_of, step_with, step_of}
 use Rattle.pddl_names.proofs.NumberLemmas.{number_is, number_none, named_entry}
-use Rattle.pddl_names.proofs.StepLemmas.{some_inj, one_object, begun_at, word_there}
+use Rattle.pddl_names.proofs.StepLemmas.{one_object, begun_at, word_there}
 use Rattle.pddl_names.proofs.StopLemmas.{ok_inj, err_inj, failed, IsObject, IsWrong, unknown, misfit, objects_read, AllFit, objects_stopped}
 
 module _ (words : Vocabulary) where
@@ -124,12 +125,12 @@ module _ (words : Vocabulary) where
           let word = word_there words rest earlier name stands in
           let fit = before earlier word.0 (omega arith) word.1 in
           let number_same = one_object words name fit.number number (subst (λ (n : List ℕ). IsNumberOf entry_name words.objects n fit.number) word.2 fit.named) its in
-          let above_same = some_inj fit.above above (sym fit.at_type ∙ ap (λ (types : List ℕ). slice_get types earlier) (params_same signature begins) ∙ at) in
+          let above_same = same_some fit.above above (sym fit.at_type ∙ ap (λ (types : List ℕ). slice_get types earlier) (params_same signature begins) ∙ at) in
           true≢false (sym fit.fits ∙ (λ i. is_object_of words (number_same i) (above_same i)) ∙ wrong)
 
       module _ (word : Text × Place) (at_word : slice_get rest place ≡ Some word) where
         word_is : (name : Text) → HasWord rest place name → word.0 ≡ name
-        word_is name stands = some_inj word.0 name (sym (ap (option_map (λ (w : Text × Place). w.0)) at_word) ∙ stands)
+        word_is name stands = same_some word.0 name (sym (ap (option_map (λ (w : Text × Place). w.0)) at_word) ∙ stands)
 
         object_rank : (number : ℕ) → IsObject words word number → {there : ℕ} {broken : TextRule} → Breaks words (head ∷ rest) there broken → there ≡ suc place → 4 ≤ rank broken
         object_rank number its (action name stands none) e = absurd (omega arith)

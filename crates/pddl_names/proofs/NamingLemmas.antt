@@ -3,6 +3,7 @@ use Rattle.std.proofs.Common.{◌≡◌, ℕ, ◌≤◌, zero, suc, Bool, true, 
 use Rattle.std.specs.Prelude.{if◌then◌else◌}
 use Rattle.std.proofs.lemmas.Bool.{true≢false}
 use Rattle.std.proofs.lemmas.List.{append-nil}
+use Rattle.mre_base.proofs.Options.{same_some}
 use Rattle.pddl_text.specs.declared.fault.TextFault.{TextFault}
 use Rattle.pddl_text.specs.declared.fault.TextRule.{TextRule}
 use Rattle.pddl_text.specs.declared.fault.TextRule.TheVariants as rule
@@ -195,15 +196,12 @@ module _ (base : Declared) where
     least = λ q hit. later.least q (ap (λ (b : List Word). breaks base b later.word later.back q) (append_assoc before (v ∷ []) later.front) ∙ hit);
   }
 
-  some_inj : (x y : TextFault) → Some x ≡ Some y → x ≡ y
-  some_inj x y e = cc
-
   found_by : (before : List Word) (v : Word) (rest : List Word) (fault : TextFault) (o : Option TextRule) → Tells (breaks base before v rest) o
       → fault_or v o (first_broken base (before ++ v ∷ []) rest) ≡ Some fault
       → (first_broken base (before ++ v ∷ []) rest ≡ Some fault → FoundFrom (before ++ v ∷ []) rest fault) → FoundFrom before (v ∷ rest) fault
   found_by before v rest fault None told e later = found_later before v rest fault told (later e)
   found_by before v rest fault (Some r) told e later =
-      subst (FoundFrom before (v ∷ rest)) (some_inj (record { at = v.at; rule = r; word = v.text }) fault e) (found_here before v rest r told)
+      subst (FoundFrom before (v ∷ rest)) (same_some (record { at = v.at; rule = r; word = v.text }) fault e) (found_here before v rest r told)
 
   found_from : (rest before : List Word) (fault : TextFault) → first_broken base before rest ≡ Some fault → FoundFrom before rest fault
   found_from [] before fault e = absurd (cc)

@@ -6,16 +6,14 @@ use Rattle.std.specs.Option.{option_map}
 use Rattle.std.specs.Str.{bytes_eq}
 use Rattle.std.proofs.lemmas.Bool.{true≢false, cases_lt}
 use Rattle.std.proofs.lemmas.Option.{slice_get_within, get_or_from_slice_get}
+use Rattle.mre_base.proofs.Options.{same_some}
 use Rattle.model_kit.proofs.Alike.{same_numbers-decides}
 use Rattle.pddl_names.specs.Numbers.{IsNumberOf, IsUndeclared, number_of}
-
-some_inj : {X : Type 0} (x y : X) → Some x ≡ Some y → x ≡ y
-some_inj x y e = cc
 
 -- the entry of a number
 pub named_entry : {X : Type 0} (name_of : X → List ℕ) (name : List ℕ) (o : Option X) → option_map name_of o ≡ Some name → (x : X) × (o ≡ Some x) × (name_of x ≡ name)
 named_entry name_of name None e = absurd (cc)
-named_entry name_of name (Some x) e = (x, refl, some_inj (name_of x) name e)
+named_entry name_of name (Some x) e = (x, refl, same_some (name_of x) name e)
 
 module _ {X : Type 0} (name_of : X → List ℕ) (name : List ℕ) where
   -- what is known of the number that is found in entries that count from a number
@@ -31,7 +29,7 @@ module _ {X : Type 0} (name_of : X → List ℕ) (name : List ℕ) where
   found_by : (x : X) (xs : List X) (from number : ℕ) → (place_from (from + 1) xs ≡ Some number → Found xs (from + 1) number)
       → (b : Bool) → bytes_eq (name_of x) name ≡ b → cond b (Some from) (place_from (from + 1) xs) ≡ Some number → Found (x ∷ xs) from number
   found_by x xs from number rest true is here =
-      let same : from ≡ number = some_inj from number here in
+      let same : from ≡ number = same_some from number here in
       record { place = 0; is = omega arith; at = ap Some ((same_numbers-decides (name_of x) name).0 is); within = omega arith }
   found_by x xs from number rest false is later =
       let more = rest later in
@@ -44,7 +42,7 @@ module _ {X : Type 0} (name_of : X → List ℕ) (name : List ℕ) where
   missing_by : (x : X) (xs : List X) (from : ℕ) → (place_from (from + 1) xs ≡ None → IsUndeclared name_of xs name)
       → (b : Bool) → bytes_eq (name_of x) name ≡ b → cond b (Some from) (place_from (from + 1) xs) ≡ None → IsUndeclared name_of (x ∷ xs) name
   missing_by x xs from rest true is here other its = cc
-  missing_by x xs from rest false is later zero its = true≢false (sym ((same_numbers-decides (name_of x) name).1 (some_inj (name_of x) name its)) ∙ is)
+  missing_by x xs from rest false is later zero its = true≢false (sym ((same_numbers-decides (name_of x) name).1 (same_some (name_of x) name its)) ∙ is)
   missing_by x xs from rest false is later (suc other) its = rest later other its
 
   missing : (entries : List X) (from : ℕ) → place_from from entries ≡ None → IsUndeclared name_of entries name

@@ -10,6 +10,8 @@ use Rattle.std.proofs.lemmas.List.{drop-drop}
 use Rattle.std.proofs.lemmas.List.Edits.{length-between}
 use Rattle.std.proofs.lemmas.Option.{slice_get_within}
 use Rattle.mre_base.specs.declared.text.Text.{Text}
+use Rattle.mre_base.proofs.Options.{same_some}
+use Rattle.mre_base.proofs.Tests.{same_test, or_not_second}
 use Rattle.model_kit.proofs.Alike.{same_numbers-decides}
 use Rattle.pddl_form.specs.declared.parts.Owner.TheVariants as owner
 use Rattle.pddl_text.specs.declared.place.Place.{Place}
@@ -20,11 +22,7 @@ use Rattle.pddl_names.specs.Listings.{Typed, Declared, first_of, action_params, 
 use Rattle.pddl_names.specs.Naming.{is_action, same_sort, is_again, action_words, params_round, is_variable, term_type}
 use Rattle.pddl_names.specs.Params.{is_action_name, is_param, param_at, first_param}
 use Rattle.pddl_names.specs.Tables.{first_before}
-use Rattle.pddl_names.proofs.PlaceLemmas.{bools}
 use Rattle.pddl_names.proofs.RoundLemmas.{between_split}
-
-some_inj : (x y : ℕ) → Some x ≡ Some y → x ≡ y
-some_inj x y e = cc
 
 -- ---- the type of a parameter
 
@@ -51,7 +49,7 @@ param_types (w ∷ ws) from g name types =
     ap g next ∙ types (k + 1) ∙ ap (λ n. type_behind (drop n (w ∷ ws))) more))
 
 bound_by : (r : Role) (from size p : ℕ) (b : Bool) (later : Option ℕ) → (later ≡ Some p → p < from + 1 + size) → param_at r from b later ≡ Some p → p < from + suc size
-bound_by (role.Variable owner.Action) from size p true later rest e = let same : from ≡ p = some_inj from p e in omega arith
+bound_by (role.Variable owner.Action) from size p true later rest e = let same : from ≡ p = same_some from p e in omega arith
 bound_by (role.Variable owner.Action) from size p false later rest e = let lt = rest e in omega arith
 bound_by (role.Variable owner.Predicate) from size p b later rest e = let lt = rest e in omega arith
 bound_by (role.Variable owner.Function) from size p b later rest e = let lt = rest e in omega arith
@@ -90,10 +88,6 @@ not_first : (a b : Bool) → (a || b) ≡ false → a ≡ false
 not_first true b e = absurd (true≢false e)
 not_first false b e = refl
 
-not_later : (a b : Bool) → (a || b) ≡ false → b ≡ false
-not_later true b e = absurd (true≢false e)
-not_later false b e = e
-
 module _ (w : Word) (rest : List Word) (is : w.role ≡ role.Variable owner.Action) where
   here : (from : ℕ) → first_param from (w ∷ rest) w.text ≡ Some from
   here from =
@@ -101,7 +95,7 @@ module _ (w : Word) (rest : List Word) (is : w.role ≡ role.Variable owner.Acti
       ∙ ap (λ b. cond b (Some from) (first_param (from + 1) rest w.text)) ((same_numbers-decides w.text w.text).1 refl)
 
   none_before : (from : ℕ) → nat_lt from (from + 0) ≡ false
-  none_before from = bools (nat_lt from (from + 0)) false (λ e. let lt = (Decides-ltb from (from + 0)).0 e in absurd (omega (arith, lt))) (λ e. absurd (true≢false (sym e)))
+  none_before from = same_test (nat_lt from (from + 0)) false (λ e. let lt = (Decides-ltb from (from + 0)).0 e in absurd (omega (arith, lt))) (λ e. absurd (true≢false (sym e)))
 
   pub again_from : (mid : List Word) (from : ℕ) → list_any is_action mid ≡ false
       → first_before (first_param from (mid ++ w ∷ rest) w.text) (from + length mid) ≡ list_any (λ (v : Word). same_sort v.role (role.Variable owner.Action) && bytes_eq v.text w.text) mid
@@ -111,7 +105,7 @@ module _ (w : Word) (rest : List Word) (is : w.role ≡ role.Variable owner.Acti
       before_by v.role (bytes_eq v.text w.text) from (length mid) (first_param (from + 1) (mid ++ w ∷ rest) w.text)
       (list_any (λ (u : Word). same_sort u.role (role.Variable owner.Action) && bytes_eq u.text w.text) mid)
       (sym (action_name v) ∙ not_first (is_action v) (list_any is_action mid) none)
-      (ap (first_before (first_param (from + 1) (mid ++ w ∷ rest) w.text)) next ∙ again_from mid (from + 1) (not_later (is_action v) (list_any is_action mid) none))
+      (ap (first_before (first_param (from + 1) (mid ++ w ∷ rest) w.text)) next ∙ again_from mid (from + 1) (or_not_second (is_action v) (list_any is_action mid) none))
 
 -- ---- the words of an action, after its name
 

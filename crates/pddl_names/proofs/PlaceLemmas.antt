@@ -13,6 +13,8 @@ use Rattle.pddl_names.specs.declared.role.Word.{Word}
 use Rattle.pddl_names.specs.Kinds.{is_kind, declares, first_place}
 use Rattle.std.proofs.lemmas.Bool.{true≢false}
 use Rattle.std.proofs.lemmas.Bool.Decides.{Decides-ltb}
+use Rattle.mre_base.proofs.Options.{same_some}
+use Rattle.mre_base.proofs.Tests.{same_test}
 use Rattle.pddl_names.specs.Listings.{Typed, Signed, first_of, with_type, with_object, with_predicate, with_function, type_behind, types_of, own_params, types_listed, objects_listed, predicates_in, functions_in}
 
 -- places count on by one
@@ -87,17 +89,9 @@ module _ (words : List Word) (name : Text) where
 
 -- ---- whether a name was declared before
 
-pub bools : (a b : Bool) → (a ≡ true → b ≡ true) → (b ≡ true → a ≡ true) → a ≡ b
-bools true b to from = sym (to refl)
-bools false true to from = absurd (true≢false (sym (from refl)))
-bools false false to from = refl
-
-some_inj : (x y : ℕ) → Some x ≡ Some y → x ≡ y
-some_inj x y e = cc
-
 shifted : (o : Option ℕ) (place : ℕ) → option_map suc o ≡ Some place → (p : ℕ) × (o ≡ Some p) × (suc p ≡ place)
 shifted None place e = absurd (cc)
-shifted (Some p) place e = (p, refl, some_inj (suc p) place e)
+shifted (Some p) place e = (p, refl, same_some (suc p) place e)
 
 module _ {X : Type 0} (t : X → Bool) where
   -- where an item passes after others, the first place that passes is among the others exactly where one of them passes
@@ -106,7 +100,7 @@ module _ {X : Type 0} (t : X → Bool) where
 
   among_by : (b : X) (before rest : List X) (place : ℕ) (a : Bool) → t b ≡ a → cond a (Some 0) (option_map suc (position_from t 0 rest)) ≡ Some place
       → ((p : ℕ) → position_from t 0 rest ≡ Some p → Among before p) → ((a || list_any t before) ≡ true → place < suc (length before)) × (place < suc (length before) → (a || list_any t before) ≡ true)
-  among_by b before rest place true is e later = let first : 0 ≡ place = some_inj 0 place e in (λ _. omega arith, λ _. refl)
+  among_by b before rest place true is e later = let first : 0 ≡ place = same_some 0 place e in (λ _. omega arith, λ _. refl)
   among_by b before rest place false is e later =
       let p = shifted (position_from t 0 rest) place e in
       let both = later p.0 p.1 in
@@ -114,7 +108,7 @@ module _ {X : Type 0} (t : X → Bool) where
 
   among : (before : List X) (x : X) (rest : List X) → t x ≡ true → (place : ℕ) → position_from t 0 (before ++ x ∷ rest) ≡ Some place → Among before place
   among [] x rest is place e =
-      let first : 0 ≡ place = some_inj 0 place (sym (ap (λ b. cond b (Some 0) (position_from t 1 rest)) is) ∙ e) in
+      let first : 0 ≡ place = same_some 0 place (sym (ap (λ b. cond b (Some 0) (position_from t 1 rest)) is) ∙ e) in
       (λ none. absurd (true≢false (sym none)), λ lt. absurd (omega arith))
   among (b ∷ before) x rest is place e =
       among_by b before (before ++ x ∷ rest) place (t b) refl (ap (λ o. cond (t b) (Some 0) o) (sym (position_shift t 0 (before ++ x ∷ rest))) ∙ e) (among before x rest is)
@@ -122,4 +116,4 @@ module _ {X : Type 0} (t : X → Bool) where
   pub before_first : (before : List X) (x : X) (rest : List X) → t x ≡ true → (place : ℕ) → position_from t 0 (before ++ x ∷ rest) ≡ Some place → list_any t before ≡ nat_lt place (length before)
   before_first before x rest is place e =
       let both = among before x rest is place e in
-      bools (list_any t before) (nat_lt place (length before)) (λ any. (Decides-ltb place (length before)).1 (both.0 any)) (λ lt. both.1 ((Decides-ltb place (length before)).0 lt))
+      same_test (list_any t before) (nat_lt place (length before)) (λ any. (Decides-ltb place (length before)).1 (both.0 any)) (λ lt. both.1 ((Decides-ltb place (length before)).0 lt))

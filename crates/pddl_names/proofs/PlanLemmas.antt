@@ -5,6 +5,7 @@ use Rattle.std.proofs.lemmas.List.Elements.{All-from_recursion}
 use Rattle.std.specs.List.{AllByRecursion}
 use Rattle.std.proofs.lemmas.Bool.{cases_lt}
 use Rattle.std.proofs.lemmas.List.{append-nil}
+use Rattle.mre_base.proofs.Options.{same_some}
 use Rattle.pddl_text.specs.Answers.{IfFault, Gives}
 use Rattle.pddl_text.specs.declared.fault.ReadStop.{ReadStop}
 use Rattle.pddl_text.specs.declared.fault.ReadStop.TheVariants as stop
@@ -23,7 +24,7 @@ use Rattle.model_kit.specs.declared.vocabulary.Vocabulary.{Vocabulary}
 use Rattle.model_kit.specs.Vocabulary.{IsGroundAction}
 use Rattle.pddl_names.specs.PlanNames.{IsStep, IsPlan, end, more, AreNamed, HasWord, Breaks, action, object, arity, type, rank, IsSound, IsFirstIn, IsFirstMisnamed, here, later, IsPlanText, IsFirstFault, form, names}
 use Rattle.pddl_names.specs.Reading.{with_value, line_step, steps_from, plan_of, read_of}
-use Rattle.pddl_names.proofs.StepLemmas.{some_inj, step_sound, same_step}
+use Rattle.pddl_names.proofs.StepLemmas.{step_sound, same_step}
 use Rattle.pddl_names.proofs.StopLemmas.{given, failed, ok_inj, err_inj}
 use Rattle.pddl_names.proofs.FirstLemmas.{step_read, step_stopped}
 
@@ -64,7 +65,7 @@ module _ (words : Vocabulary) where
       let breaks = subst (λ p. Breaks words line p one.rule) places first.breaks in
       let least = subst (λ p. (broken : TextRule) → Breaks words line p broken → rank one.rule ≤ rank broken) places first.least in
       let rules = same_rule line second.place one.rule two.rule breaks second.breaks least second.least in
-      let pair = some_inj (one.word, one.at) (two.word, two.at) (sym first.stands ∙ ap (slice_get line) places ∙ second.stands) in
+      let pair = same_some (one.word, one.at) (two.word, two.at) (sym first.stands ∙ ap (slice_get line) places ∙ second.stands) in
       λ i. record { at = (pair i).1; rule = rules i; word = (pair i).0 }
 
   -- ---- one line

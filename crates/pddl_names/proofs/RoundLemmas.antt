@@ -8,22 +8,19 @@ use Rattle.std.proofs.lemmas.List.Edits.{between_none, between_more}
 use Rattle.std.proofs.lemmas.List.Sums.{take_while-cons}
 use Rattle.std.proofs.lemmas.Option.{slice_get_within, get_or_from_slice_get}
 use Rattle.mre_base.proofs.Loops.{take_item, drop_item}
+use Rattle.mre_base.proofs.Listed.{item_at}
+use Rattle.mre_base.proofs.Tests.{or_false}
+use Rattle.std.proofs.lemmas.List.Folds.{list_any-append}
 use Rattle.pddl_names.specs.declared.role.Word.{Word}
 use Rattle.pddl_names.specs.Listings.{is_term}
 use Rattle.pddl_names.specs.Naming.{is_action, action_words, head_of, terms_before}
-use Rattle.pddl_names.proofs.ScanLemmas.{item_at}
-use Rattle.pddl_names.proofs.TreeLemmas.{any_append}
-
-or_none : (b : Bool) → (b || false) ≡ b
-or_none true = refl
-or_none false = refl
 
 module _ {X : Type 0} where
   pub between_item : (xs : List X) (from i : ℕ) (x : X) → from ≤ i → slice_get xs i ≡ Some x → between from (i + 1) xs ≡ between from i xs ++ x ∷ []
   between_item xs from i x le at = between_more xs from i x le (slice_get_within xs i x at) ∙ ap (λ y. between from i xs ++ y ∷ []) (get_or_from_slice_get xs i x x at)
 
   any_last : (t : X → Bool) (xs : List X) (x : X) → list_any t (xs ++ x ∷ []) ≡ (list_any t xs || t x)
-  any_last t xs x = any_append t xs (x ∷ []) ∙ ap (λ b. list_any t xs || b) (or_none (t x))
+  any_last t xs x = list_any-append t xs (x ∷ []) ∙ ap (λ b. list_any t xs || b) (or_false (t x))
 
   pub none_more : (t : X → Bool) (xs : List X) (from i : ℕ) → from ≤ i → (x : X) → slice_get xs i ≡ Some x → t x ≡ false → list_any t (between from i xs) ≡ false → list_any t (between from (i + 1) xs) ≡ false
   none_more t xs from i le x at miss none =

@@ -1,24 +1,9 @@
 -- A table that is filled from the last word to the first: at each place is what a fold gives of the words after it.
-use Rattle.std.proofs.Common.{◌≡◌, ℕ, ◌+◌, ◌-◌, ◌<◌, ◌≤◌, ◌≢◌, zero, suc, Some, None, Option, List, [], ◌∷◌, length, drop, get_or, get_or-set_other, get_or-set_same, length-set, refl, sym, ap, subst, ◌∙◌, arith, ⊎_elim}
-use Rattle.std.specs.Prelude.{slice_get, slice_set, slice_index, IfSome}
+use Rattle.std.proofs.Common.{◌≡◌, ℕ, ◌+◌, ◌-◌, ◌<◌, ◌≤◌, ◌≢◌, zero, suc, Some, List, [], ◌∷◌, length, drop, get_or, get_or-set_other, get_or-set_same, length-set, refl, sym, ap, subst, ◌∙◌, arith, ⊎_elim}
+use Rattle.std.specs.Prelude.{slice_get, slice_set, slice_index}
 use Rattle.std.proofs.lemmas.Bool.{cases_lt}
 use Rattle.std.proofs.lemmas.List.{drop_all}
 use Rattle.mre_base.proofs.Loops.{drop_item}
-
--- there is an item at each place below the length
-pub item_at : {X : Type 0} (xs : List X) (place : ℕ) → place < length xs → (x : X) × (slice_get xs place ≡ Some x)
-item_at [] place lt = absurd (omega arith)
-item_at (x ∷ xs) zero lt = (x, refl)
-item_at (x ∷ xs) (suc place) lt = item_at xs place (omega arith)
-
-pub at_item : {X : Type 0} (o : Option X) (x : X) (P : X → Type 0) → o ≡ Some x → IfSome o P → P x
-at_item o x P is holds = subst (λ p. IfSome p P) is holds
-
-pub past_end : {X : Type 0} (xs : List X) (place : ℕ) → length xs ≤ place → slice_get xs place ≡ None
-past_end [] zero le = refl
-past_end [] (suc place) le = refl
-past_end (x ∷ xs) zero le = absurd (omega arith)
-past_end (x ∷ xs) (suc place) le = past_end xs place (omega arith)
 
 -- `view` is what a number of the table means, and `fold` the value of the words after a place
 module _ {X Y : Type 0} (view : ℕ → Y) (fold : List X → Y) (xs : List X) where
@@ -63,7 +48,3 @@ pub index_read : (table : List ℕ) (place other : ℕ) → place < length table
 index_read [] place other lt = absurd (omega arith)
 index_read (n ∷ table) zero other lt = refl
 index_read (n ∷ table) (suc place) other lt = index_read table place other (omega arith)
-
--- what holds of the item at a place
-pub item_holds : {X : Type 0} (o : Option X) (x : X) (P : X → Type 0) → o ≡ Some x → P x → IfSome o P
-item_holds o x P is holds = subst (λ p. IfSome p P) (sym is) holds

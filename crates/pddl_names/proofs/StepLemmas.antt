@@ -6,6 +6,7 @@ use Rattle.std.specs.Cmp.{first_so, second_so}
 use Rattle.std.specs.Cmp.Lexicographic.{pointwise}
 use Rattle.std.proofs.lemmas.Bool.{true≢false}
 use Rattle.mre_base.specs.declared.text.Text.{Text}
+use Rattle.mre_base.proofs.Options.{same_some}
 use Rattle.pddl_text.specs.declared.fault.TextRule.{TextRule}
 use Rattle.pddl_text.specs.declared.place.Place.{Place}
 use Rattle.pddl_text.specs.Plans.{Words}
@@ -19,9 +20,6 @@ use Rattle.pddl_names.specs.Numbers.{IsNumberOf, entry_name, word_name}
 use Rattle.pddl_names.specs.PlanNames.{AreObjects, none, more, IsStep, HasWord, BeginsWith, Breaks, action, object, arity, type, IsSound}
 use Rattle.pddl_names.proofs.NumberLemmas.{named_entry, one_number}
 
-pub some_inj : {X : Type 0} (x y : X) → Some x ≡ Some y → x ≡ y
-some_inj x y e = cc
-
 -- the numbers of two lists that fit at a place
 pub pointwise_at : {X Y : Type 0} (f : X → Y → Bool) (xs : List X) (ys : List Y) (place : ℕ) (x : X) (y : Y)
     → pointwise f xs ys ≡ true → slice_get xs place ≡ Some x → slice_get ys place ≡ Some y → f x y ≡ true
@@ -30,7 +28,7 @@ pointwise_at f [] ys (suc place) x y fit at_x at_y = absurd (cc)
 pointwise_at f (a ∷ xs) [] zero x y fit at_x at_y = absurd (cc)
 pointwise_at f (a ∷ xs) [] (suc place) x y fit at_x at_y = absurd (cc)
 pointwise_at f (a ∷ xs) (b ∷ ys) zero x y fit at_x at_y =
-    (λ i. f (sym (some_inj a x at_x) i) (sym (some_inj b y at_y) i)) ∙ first_so (f a b) (pointwise f xs ys) fit
+    (λ i. f (sym (same_some a x at_x) i) (sym (same_some b y at_y) i)) ∙ first_so (f a b) (pointwise f xs ys) fit
 pointwise_at f (a ∷ xs) (b ∷ ys) (suc place) x y fit at_x at_y = pointwise_at f xs ys place x y (second_so (f a b) (pointwise f xs ys) fit) at_x at_y
 
 module _ (words : Vocabulary) where
@@ -56,7 +54,7 @@ module _ (words : Vocabulary) where
   object_there none zero word at = absurd (cc)
   object_there none (suc place) word at = absurd (cc)
   object_there (more {word = there} {object = number} is rest) zero word at =
-      (number, refl, subst (λ (w : Text × Place). IsNumberOf entry_name words.objects w.0 number) (some_inj there word at) is)
+      (number, refl, subst (λ (w : Text × Place). IsNumberOf entry_name words.objects w.0 number) (same_some there word at) is)
   object_there (more is rest) (suc place) word at = object_there rest place word at
 
   -- ---- the action of a line
@@ -107,7 +105,7 @@ module _ (words : Vocabulary) where
 
   pub same_step : (line : Words) (one two : GroundAction) → IsStep words line one → IsStep words line two → one ≡ two
   same_step line one two first second =
-      let heads : first.head ≡ second.head = some_inj first.head second.head (ap (λ (l : Words). slice_get l 0) (sym first.parts ∙ second.parts)) in
+      let heads : first.head ≡ second.head = same_some first.head second.head (ap (λ (l : Words). slice_get l 0) (sym first.parts ∙ second.parts)) in
       let rests : first.rest ≡ second.rest = ap rest_of (sym first.parts ∙ second.parts) in
       let schemas = one_action second.head.0 one.schema two.schema (subst (λ (w : Text × Place). IsNumberOf word_name words.actions w.0 one.schema) heads first.action) second.action in
       let objects = same_objects (subst (λ (l : Words). AreObjects words l one.objects) rests first.objects) second.objects in

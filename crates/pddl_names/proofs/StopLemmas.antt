@@ -5,6 +5,7 @@ use Rattle.std.specs.Cmp.Lexicographic.{pointwise}
 use Rattle.std.proofs.lemmas.Bool.{and_from}
 use Rattle.std.proofs.lemmas.List.{append-nil}
 use Rattle.mre_base.specs.declared.text.Text.{Text}
+use Rattle.mre_base.proofs.Options.{same_some}
 use Rattle.pddl_text.specs.declared.fault.TextFault.{TextFault}
 use Rattle.pddl_text.specs.declared.fault.TextRule.{TextRule}
 use Rattle.pddl_text.specs.declared.fault.TextRule.TheVariants as rule
@@ -16,7 +17,6 @@ use Rattle.pddl_names.specs.Numbers.{IsNumberOf, IsUndeclared, number_of, entry_
 use Rattle.pddl_names.specs.PlanNames.{AreObjects, none, more}
 use Rattle.pddl_names.specs.Reading.{broken_at, with_value, with_number, object_at, objects_from}
 use Rattle.pddl_names.proofs.NumberLemmas.{number_is, number_none}
-use Rattle.pddl_names.proofs.StepLemmas.{some_inj}
 
 abbrev pub given : {A : Type 0} → A → Result A TextFault
 given x = Ok x
@@ -121,7 +121,7 @@ module _ (words : Vocabulary) where
   fit_more : (first : Text × Place) (line : Words) (above : ℕ) (types : List ℕ) (place number : ℕ) → IsObject first number → is_object_of words number above ≡ true
       → AllFit line types place → AllFit (first ∷ line) (above ∷ types) (suc place)
   fit_more first line above types place number named fits rest zero word lt at =
-      record { above = above; at_type = refl; number = number; named = subst (λ (w : Text × Place). IsObject w number) (some_inj first word at) named; fits = fits }
+      record { above = above; at_type = refl; number = number; named = subst (λ (w : Text × Place). IsObject w number) (same_some first word at) named; fits = fits }
   fit_more first line above types place number named fits rest (suc earlier) word lt at =
       let fit = rest earlier word (omega arith) at in
       record { above = fit.above; at_type = fit.at_type; number = fit.number; named = fit.named; fits = fit.fits }

@@ -6,9 +6,13 @@ use Rattle.std.specs.Option.{option_map, option_or}
 use Rattle.std.specs.Str.{bytes_eq}
 use Rattle.std.specs.Bool.{Decides}
 use Rattle.std.proofs.lemmas.List.{length-map, map-append}
-use Rattle.std.proofs.lemmas.List.Folds.{list_any_at}
+use Rattle.std.proofs.lemmas.List.Folds.{list_any_at, list_any-append}
 use Rattle.std.proofs.lemmas.Bool.{true≢false, or_cases, or_left, or_right, eqb-true, eq-eqb, false_from_ne_true}
 use Rattle.mre_base.specs.declared.text.Text.{Text}
+use Rattle.mre_base.proofs.Options.{same_some}
+use Rattle.mre_base.proofs.Tests.{same_test}
+use Rattle.mre_base.proofs.Listed.{item_at}
+use Rattle.std.proofs.Math.Bool.{or_assoc}
 use Rattle.model_kit.proofs.Alike.{same_numbers-decides}
 use Rattle.pddl_names.specs.Firsts.{typed_name}
 use Rattle.pddl_names.specs.Listings.{Typed, first_of, parent_of, ancestor, is_type, is_below, comes_back}
@@ -17,17 +21,13 @@ use Rattle.pddl_names.specs.Forests.{AreUps, climb, Reaches}
 use Rattle.pddl_names.specs.TypeTrees.{parent_entry, with_parents, parent_number}
 use Rattle.pddl_names.proofs.FirstsLemmas.{first_some}
 use Rattle.pddl_names.proofs.NumberLemmas.{number_is, number_below, named_entry}
-use Rattle.pddl_names.proofs.PlaceLemmas.{bools}
+use Rattle.model_kit.proofs.StateLemmas.{list_any-map}
 use Rattle.model_kit.proofs.TypeLemmas.{any_below, some_below}
 use Rattle.pddl_names.proofs.FewLemmas.{reach_few}
-use Rattle.pddl_names.proofs.ScanLemmas.{item_at}
 
 -- a number is another, or one of the few above it
 abbrev pub climbs_to : List ℕ → ℕ → ℕ → ℕ → Bool
 climbs_to ups bound from to = list_any (λ n. climb ups n from == to) (range_with_len 0 bound)
-
-some_inj : {X : Type 0} (x y : X) → Some x ≡ Some y → x ≡ y
-some_inj x y e = cc
 
 -- a place is found exactly where an item passes
 found_by : {X : Type 0} (t : X → Bool) (i : ℕ) (xs : List X) (b : Bool) → is_some (position_from t (i + 1) xs) ≡ list_any t xs → is_some (cond b (Some i) (position_from t (i + 1) xs)) ≡ (b || list_any t xs)
@@ -37,14 +37,6 @@ found_by t i xs false e = e
 pub found_any : {X : Type 0} (t : X → Bool) (i : ℕ) (xs : List X) → is_some (position_from t i xs) ≡ list_any t xs
 found_any t i [] = refl
 found_any t i (x ∷ xs) = found_by t i xs (t x) (found_any t (i + 1) xs)
-
-or_assoc : (a b c : Bool) → ((a || b) || c) ≡ (a || (b || c))
-or_assoc true b c = refl
-or_assoc false b c = refl
-
-pub any_append : {X : Type 0} (t : X → Bool) (xs ys : List X) → list_any t (xs ++ ys) ≡ (list_any t xs || list_any t ys)
-any_append t [] ys = refl
-any_append t (x ∷ xs) ys = ap (λ b. t x || b) (any_append t xs ys) ∙ sym (or_assoc (t x) (list_any t xs) (list_any t ys))
 
 any_either : {X : Type 0} (t u : X → Bool) (xs : List X) → (list_any t xs || list_any u xs) ≡ list_any (λ x. t x || u x) xs
 any_either t u [] = refl
@@ -56,10 +48,6 @@ any_either t u (x ∷ xs) = swap (t x) (u x) (list_any t xs) (list_any u xs) ∙
     swap false true false d = refl
     swap false false c d = refl
 
-any_map : {X Y : Type 0} (t : Y → Bool) (f : X → Y) (xs : List X) → list_any t (map f xs) ≡ list_any (λ x. t (f x)) xs
-any_map t f [] = refl
-any_map t f (x ∷ xs) = ap (λ b. t (f x) || b) (any_map t f xs)
-
 or_swap : (a b : Bool) → (a || (b || false)) ≡ (b || a)
 or_swap true true = refl
 or_swap true false = refl
@@ -68,7 +56,7 @@ or_swap false false = refl
 
 pub same_back : (x y : List ℕ) → bytes_eq x y ≡ bytes_eq y x
 same_back x y =
-    bools (bytes_eq x y) (bytes_eq y x) (λ e. (same_numbers-decides y x).1 (sym ((same_numbers-decides x y).0 e))) (λ e. (same_numbers-decides x y).1 (sym ((same_numbers-decides y x).0 e)))
+    same_test (bytes_eq x y) (bytes_eq y x) (λ e. (same_numbers-decides y x).1 (sym ((same_numbers-decides x y).0 e))) (λ e. (same_numbers-decides x y).1 (sym ((same_numbers-decides y x).0 e)))
 
 -- ---- what the first entry of a name says
 
@@ -99,12 +87,12 @@ or_object (Some t) two e = refl
 pub index_map : {X : Type 0} (f : X → ℕ) (xs : List X) (k : ℕ) (x : X) → slice_get xs k ≡ Some x → slice_index (map f xs) k ≡ f x
 index_map f [] zero x at = absurd (cc)
 index_map f [] (suc k) x at = absurd (cc)
-index_map f (y ∷ xs) zero x at = ap f (some_inj y x at)
+index_map f (y ∷ xs) zero x at = ap f (same_some y x at)
 index_map f (y ∷ xs) (suc k) x at = index_map f xs k x at
 
 said_by : (e : Typed) (types : List Typed) (name p : Text) (b : Bool) → (first_of types name ≡ Some p → list_any (λ (f : Typed). bytes_eq f.0 p || bytes_eq f.1 p) types ≡ true)
     → cond b (Some e.1) (first_of types name) ≡ Some p → (bytes_eq e.0 p || bytes_eq e.1 p) ≡ true ⊎ list_any (λ (f : Typed). bytes_eq f.0 p || bytes_eq f.1 p) types ≡ true
-said_by e types name p true later is = inl (or_right (bytes_eq e.0 p) (bytes_eq e.1 p) ((same_numbers-decides e.1 p).1 (some_inj e.1 p is)))
+said_by e types name p true later is = inl (or_right (bytes_eq e.0 p) (bytes_eq e.1 p) ((same_numbers-decides e.1 p).1 (same_some e.1 p is)))
 said_by e types name p false later is = inr (later is)
 
 either_or : (a b : Bool) → a ≡ true ⊎ b ≡ true → (a || b) ≡ true
@@ -132,10 +120,10 @@ module _ (types : List Typed) where
   any_is : (name : Text) → list_any (λ (e : Typed). bytes_eq e.0 name) entries ≡ is_type types name
   any_is name =
       ap (list_any (λ (e : Typed). bytes_eq e.0 name)) nested
-      ∙ any_append (λ (e : Typed). bytes_eq e.0 name) types (map parent_entry types ++ (object, object) ∷ [])
+      ∙ list_any-append (λ (e : Typed). bytes_eq e.0 name) types (map parent_entry types ++ (object, object) ∷ [])
       ∙ ap (λ b. list_any (λ (e : Typed). bytes_eq e.0 name) types || b)
-      (any_append (λ (e : Typed). bytes_eq e.0 name) (map parent_entry types) ((object, object) ∷ [])
-      ∙ ap (λ b. b || (bytes_eq object name || false)) (any_map (λ (e : Typed). bytes_eq e.0 name) parent_entry types))
+      (list_any-append (λ (e : Typed). bytes_eq e.0 name) (map parent_entry types) ((object, object) ∷ [])
+      ∙ ap (λ b. b || (bytes_eq object name || false)) (list_any-map (λ (e : Typed). bytes_eq e.0 name) parent_entry types))
       ∙ sym (or_assoc (list_any (λ (e : Typed). bytes_eq e.0 name) types) (list_any (λ (e : Typed). bytes_eq e.1 name) types) (bytes_eq object name || false))
       ∙ or_swap (list_any (λ (e : Typed). bytes_eq e.0 name) types || list_any (λ (e : Typed). bytes_eq e.1 name) types) (bytes_eq object name)
       ∙ (λ i. same_back object name i || any_either (λ (e : Typed). bytes_eq e.0 name) (λ (e : Typed). bytes_eq e.1 name) types i)
@@ -180,10 +168,10 @@ module _ (types : List Typed) where
 
   pub alike : (x y : Text) (i j : ℕ) → number x ≡ Some i → number y ≡ Some j → bytes_eq x y ≡ (i == j)
   alike x y i j at_x at_y =
-      bools (bytes_eq x y) (i == j)
-      (λ e. eq-eqb i j (some_inj i j (sym at_x ∙ ap number ((same_numbers-decides x y).0 e) ∙ at_y)))
+      same_test (bytes_eq x y) (i == j)
+      (λ e. eq-eqb i j (same_some i j (sym at_x ∙ ap number ((same_numbers-decides x y).0 e) ∙ at_y)))
       (λ e. (same_numbers-decides x y).1
-      (some_inj x y (sym (number_is typed_name entries x i at_x) ∙ ap (λ n. option_map typed_name (slice_get entries n)) (eqb-true i j e) ∙ number_is typed_name entries y j at_y)))
+      (same_some x y (sym (number_is typed_name entries x i at_x) ∙ ap (λ n. option_map typed_name (slice_get entries n)) (eqb-true i j e) ∙ number_is typed_name entries y j at_y)))
 
   pub reached : (name above : Text) (a b bound : ℕ) → number name ≡ Some a → number above ≡ Some b
       → list_any (λ n. bytes_eq (ancestor types n name) above) (range_with_len 0 bound) ≡ climbs_to ups bound a b
@@ -273,8 +261,8 @@ module _ (types : List Typed) where
       let split : ups types ≡ (one ++ two) ++ last ∷ [] =
       (map-append pn (types ++ map parent_entry types) ((object, object) ∷ []) ∙ ap (λ xs. xs ++ last ∷ []) (map-append pn types (map parent_entry types))) in
       let parts : (list_any t one || list_any t two) || (t last || false) ≡ true =
-      (ap (λ b. b || (t last || false)) (sym (any_append t one two)) ∙ sym (any_append t (one ++ two) (last ∷ [])) ∙ ap (list_any t) (sym split) ∙ e) in
-      any_append t one (last ∷ [])
+      (ap (λ b. b || (t last || false)) (sym (list_any-append t one two)) ∙ sym (list_any-append t (one ++ two) (last ∷ [])) ∙ ap (list_any t) (sym split) ∙ e) in
+      list_any-append t one (last ∷ [])
       ∙ ⊎_elim
       (λ front. ⊎_elim (λ a. or_left (list_any t one) (t last || false) a)
       (λ b. or_right (list_any t one) (t last || false) (or_left (t last) false (parents_by (entries types) t types b)))
@@ -292,7 +280,7 @@ module _ (types : List Typed) where
   -- where a number reaches another, it does so in few steps
   pub reach_bound : AreUps (ups types) → (a b bound : ℕ) → a < length (ups types) → length types + 2 ≤ bound → (result : Bool) → Decides result (Reaches (ups types) a b) → result ≡ climbs_to (ups types) bound a b
   reach_bound are a b bound lt enough result decides =
-      bools result (climbs_to (ups types) bound a b)
+      same_test result (climbs_to (ups types) bound a b)
       (λ yes. let reach = decides.0 yes in
       let less = reach_few (ups types) few a b (λ k. few_any (λ x. climb (ups types) (suc k) a == x) (any_place (ups types) (climb (ups types) k a) (climb_low are k a lt))) reach.0 reach.1 in
       any_below (λ n. climb (ups types) n a == b) bound less.0 (omega (arith, less.1, few_long, enough)) (eq-eqb (climb (ups types) less.0 a) b less.2))

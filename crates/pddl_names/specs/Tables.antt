@@ -6,7 +6,7 @@ use Rattle.std.specs.Prelude.{zero, suc, if◌then◌else◌}
 use Rattle.std.specs.List.{list_any, between}
 use Rattle.pddl_names.specs.declared.kind.Kind.TheVariants as kind
 use Rattle.pddl_names.specs.declared.name_tables.Names.{Names}
-use Rattle.pddl_names.specs.declared.name_tables.Round.{Round}
+use Rattle.pddl_names.specs.declared.name_tables.CurrentAction.{CurrentAction}
 use Rattle.pddl_names.specs.declared.name_tables.Tables.{Tables}
 use Rattle.pddl_names.specs.declared.role.Role.{Role}
 use Rattle.pddl_names.specs.declared.role.Role.TheVariants as role
@@ -71,11 +71,11 @@ pub record AreTables (known : Declared) (words : List Word) (tables : Tables) : 
 
 -- the action that the word at a place belongs to: where the words after its name begin, and its
 -- parameters
-pub record IsRound (words : List Word) (place : ℕ) (round : Round) : Type 0 where
-  pub within : round.start ≤ place
-  pub words_are : action_words (take place words) ≡ between round.start place words
-  pub none : list_any is_action (between round.start place words) ≡ false
-  pub params : AreParamPlaces words round.start round.params
+pub record IsCurrentAction (words : List Word) (place : ℕ) (action : CurrentAction) : Type 0 where
+  pub within : action.start ≤ place
+  pub words_are : action_words (take place words) ≡ between action.start place words
+  pub none : list_any is_action (between action.start place words) ≡ false
+  pub params : AreParamPlaces words action.start action.params
 
 -- the head before a place where terms may begin
 abbrev pub head_at : List Word → ℕ → Option Word

@@ -9,13 +9,13 @@ ghost use Rattle.pddl_names.specs.Listings.{Declared, declared, nothing};
 ghost use Rattle.pddl_names.specs.Naming.{IsNamed, IsMisnamed};
 ghost use Rattle.pddl_names.specs.Params.{AreParamPlaces};
 ghost use Rattle.pddl_names.specs.Reading.{Answers};
-ghost use Rattle.pddl_names.specs.Tables.{AreTables, AreSized, IsRound, AreTermsFrom};
+ghost use Rattle.pddl_names.specs.Tables.{AreTables, AreSized, IsCurrentAction, AreTermsFrom};
 ghost use Rattle.pddl_names.specs.Texts.{declared_by};
 ghost use Rattle.pddl_text.specs.Answers.{Gives, IfFault};
 
 use crate::groups::is_term;
 use crate::known::Base;
-use crate::name_tables::{Round, Tables};
+use crate::name_tables::{CurrentAction, Tables};
 use crate::names::NameTable;
 use crate::role::{Word, is_action};
 use model_kit::Vocabulary;
@@ -89,28 +89,33 @@ fn fault_at(alloc: Global, word: &Word, rule: TextRule) -> ReadStop
     }
 }
 
-impl Round {
+impl CurrentAction {
     // The words from a place on are those of an action, up to the next.
-    fn from(alloc: Global, words: &List<Word>, start: usize) -> Result<Round, NoMemory>
+    fn from(alloc: Global, words: &List<Word>, start: usize) -> Result<CurrentAction, NoMemory>
         requires few { length words.now < 2 ^ 30 }
-        ensures ok { IfOk result (λ round. round.start ≡ start) }
-        ensures params { IfOk result (λ round. AreParamPlaces words.now start round.params) }
+        ensures ok { IfOk result (λ action. action.start ≡ start) }
+        ensures params { IfOk result (λ action. AreParamPlaces words.now start action.params) }
     {
-        Ok(Round {
+        Ok(CurrentAction {
             start,
             params: NameTable::of_params(alloc, words, start)?,
         })
     }
 
     // The action that the next word belongs to.
-    fn past(self, alloc: Global, words: &List<Word>, place: usize) -> Result<Round, NoMemory>
+    fn past(
+        self,
+        alloc: Global,
+        words: &List<Word>,
+        place: usize,
+    ) -> Result<CurrentAction, NoMemory>
         requires few { length words.now < 2 ^ 30 }
         requires place { place < length words.now }
-        requires round { IsRound words.now place self }
-        ensures ok { IfOk result (IsRound words.now (place + 1)) }
+        requires action { IsCurrentAction words.now place self }
+        ensures ok { IfOk result (IsCurrentAction words.now (place + 1)) }
     {
         if is_action(words.item(place).role) {
-            Round::from(alloc, words, place + 1)
+            CurrentAction::from(alloc, words, place + 1)
         } else {
             Ok(self)
         }
@@ -125,15 +130,15 @@ impl Tables {
         ensures { (base : Declared) → AreTables (declared base words.now) words.now self.now →
             Gives result (names_read base words.now) }
     {
-        let mut round = Round::from(alloc, words, 0)?;
+        let mut action = CurrentAction::from(alloc, words, 0)?;
         let mut from = 0;
         for place in 0..words.len() {
             let word = words.item(place);
-            match self.broken_rule(words, place, &round, from) {
+            match self.broken_rule(words, place, &action, from) {
                 Some(rule) => return Err(fault_at(alloc, word, rule)),
                 None => {}
             }
-            round = round.past(alloc, words, place)?;
+            action = action.past(alloc, words, place)?;
             from = terms_from(word, place, from);
         }
         Ok(())
@@ -144,26 +149,26 @@ impl Tables {
         &self,
         words: &List<Word>,
         place: usize,
-        round: &Round,
+        action: &CurrentAction,
         from: usize,
     ) -> Option<TextRule>
         requires place { place < length words.now }
-        requires round { IsRound words.now place round.now }
+        requires action { IsCurrentAction words.now place action.now }
         requires from { AreTermsFrom words.now place from }
         requires sizes { AreSized words.now self.now }
         ensures { (known : Declared) → AreTables known words.now self.now →
             IfSome (slice_get words.now place) (λ w.
             result ≡ first_rule_of known (take place words.now) w (drop (place + 1) words.now)) }
     {
-        if self.is_twice(words, place, round) {
+        if self.is_twice(words, place, action) {
             Some(TextRule::Twice)
         } else if self.is_cycle(words, place) {
             Some(TextRule::TypeCycle)
-        } else if self.is_undeclared(words, place, round) {
+        } else if self.is_undeclared(words, place, action) {
             Some(TextRule::Undeclared)
         } else if self.heads.is_wrong_arity(words, place) {
             Some(TextRule::WrongArity)
-        } else if self.is_wrong_type(words, place, round, from) {
+        } else if self.is_wrong_type(words, place, action, from) {
             Some(TextRule::WrongType)
         } else {
             None

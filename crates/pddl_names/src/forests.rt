@@ -53,9 +53,8 @@ fn is_marked(marks: &Vec<bool>, number: u32) -> bool
     }
 }
 
-// Where one jumps to from a number below a parent, after Myers: as far as from the parent twice,
-// where
-// both jumps from there are equally long.
+// Where one jumps to from a number below a parent, after Myers: as far as two jumps from the parent
+// go, if those are equally long, and otherwise to the parent.
 fn jump_below(nodes: &Vec<Node>, parent: u32) -> u32
     ensures { (result ≡ parent)
         ⊎ (result ≡ (node_at nodes.now.items (node_at nodes.now.items parent).jump).jump) }

@@ -35,7 +35,7 @@ pub use heads::Heads;
 pub use kind::Kind;
 pub use known::{Base, Known};
 pub use laws::{law_names, law_plans, law_steps, law_texts};
-pub use name_tables::{Names, Round, Tables};
+pub use name_tables::{CurrentAction, Names, Tables};
 pub use names::{NameTable, Named};
 pub use plan::read_plan;
 pub use repeats::is_declared_again;

@@ -22,7 +22,6 @@ use mre_base::{List, NoMemory, Text};
 use std::alloc::Global;
 
 /// What is declared, by name.
-#[derive(Drop)]
 pub struct Names {
     pub types: TypedList,
     pub tree: TypeTree,
@@ -31,6 +30,19 @@ pub struct Names {
     pub functions: SignedList,
     /// The type that each other is below.
     pub object: Text,
+}
+
+impl Drop for Names {
+    fn drop(self) {
+        let Names {
+            types: _,
+            tree: _,
+            objects: _,
+            predicates: _,
+            functions: _,
+            object: _,
+        } = self;
+    }
 }
 
 impl Names {
@@ -123,7 +135,7 @@ fn heads_of(
 /// The action that a word belongs to: where the words after its name begin, and where its
 /// parameters are first declared.
 #[derive(Drop)]
-pub struct Round {
+pub struct CurrentAction {
     pub start: usize,
     pub params: NameTable,
 }

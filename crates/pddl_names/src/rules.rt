@@ -13,13 +13,14 @@ ghost use Rattle.pddl_names.specs.Kinds.{declares};
 ghost use Rattle.pddl_names.specs.Listings.{Declared};
 ghost use Rattle.pddl_names.specs.Naming.{is_other, is_twice, is_cycle, is_undeclared, due_types};
 ghost use Rattle.pddl_names.specs.Params.{is_param};
-ghost use Rattle.pddl_names.specs.Tables.{AreNames, AreTables, AreSized, IsRound, is_increase_role};
+ghost use Rattle.pddl_names.specs.Tables.{AreNames, AreTables, AreSized, IsCurrentAction};
+ghost use Rattle.pddl_names.specs.Tables.{is_increase_role};
 ghost use Rattle.pddl_names.specs.Tables.{first_before};
 ghost use Rattle.pddl_names.specs.Numbers.{number_in};
 
 use crate::climbing::is_same;
 use crate::kind::Kind;
-use crate::name_tables::{Names, Round, Tables};
+use crate::name_tables::{CurrentAction, Names, Tables};
 use crate::names::NameTable;
 use crate::role::{Role, Word};
 use mre_base::{List, Text};
@@ -125,9 +126,9 @@ impl Tables {
     /// Whether a type is listed again with another parent, an object with another type, a
     /// predicate, a function or an action is declared again, a parameter or an increase is repeated
     /// in one action, or a function has another number.
-    pub(crate) fn is_twice(&self, words: &List<Word>, place: usize, round: &Round) -> bool
+    pub(crate) fn is_twice(&self, words: &List<Word>, place: usize, action: &CurrentAction) -> bool
         requires place { place < length words.now }
-        requires round { IsRound words.now place round.now }
+        requires action { IsCurrentAction words.now place action.now }
         requires sizes { AreSized words.now self.now }
         ensures { (known : Declared) → AreTables known words.now self.now →
             IfSome (slice_get words.now place) (λ w.
@@ -149,9 +150,9 @@ impl Tables {
             Role::Function => is_before(&self.functions, &word.text, place),
             Role::Action => is_before(&self.actions, &word.text, place),
             Role::Variable { owner } => {
-                is_of_action(owner) && is_before(&round.params, &word.text, place)
+                is_of_action(owner) && is_before(&action.params, &word.text, place)
             }
-            Role::Increase => is_increased(words, round.start, place, &word.text),
+            Role::Increase => is_increased(words, action.start, place, &word.text),
             Role::Value => self.is_other_value(words, place),
             _ => false,
         }
@@ -180,9 +181,14 @@ impl Tables {
     }
 
     /// Whether nothing declares the type, the predicate, the function, the variable or the object.
-    pub(crate) fn is_undeclared(&self, words: &List<Word>, place: usize, round: &Round) -> bool
+    pub(crate) fn is_undeclared(
+        &self,
+        words: &List<Word>,
+        place: usize,
+        action: &CurrentAction,
+    ) -> bool
         requires place { place < length words.now }
-        requires round { IsRound words.now place round.now }
+        requires action { IsCurrentAction words.now place action.now }
         requires sizes { AreSized words.now self.now }
         ensures { (known : Declared) → AreTables known words.now self.now →
             IfSome (slice_get words.now place) (λ w.
@@ -192,7 +198,7 @@ impl Tables {
         match word.role {
             Role::ObjectType | Role::VariableType => !self.names.tree.is_type(&word.text),
             Role::Head { .. } | Role::Cost | Role::Value => self.heads.is_unknown(words, word),
-            Role::Term => self.term_type(words, place, round, &word.text).is_none(),
+            Role::Term => self.term_type(words, place, action, &word.text).is_none(),
             _ => false,
         }
     }

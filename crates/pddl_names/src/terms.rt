@@ -8,10 +8,10 @@ ghost use Rattle.pddl_names.specs.Groups.{text_at};
 ghost use Rattle.pddl_names.specs.Listings.{Declared, is_term};
 ghost use Rattle.pddl_names.specs.Naming.{is_variable, params_round, term_type, due_type};
 ghost use Rattle.pddl_names.specs.Naming.{is_wrong_type};
-ghost use Rattle.pddl_names.specs.Tables.{AreNames, AreTables, AreSized, IsRound, AreTermsFrom};
+ghost use Rattle.pddl_names.specs.Tables.{AreNames, AreTables, AreSized, IsCurrentAction, AreTermsFrom};
 
 use crate::groups::is_term;
-use crate::name_tables::{Round, Tables};
+use crate::name_tables::{CurrentAction, Tables};
 use crate::role::Word;
 use mre_base::{List, Text};
 
@@ -44,11 +44,11 @@ impl Tables {
         &'a self,
         words: &'a List<Word>,
         place: usize,
-        round: &Round,
+        action: &CurrentAction,
         text: &Text,
     ) -> Option<&'a Text>
         requires place { place < length words.now }
-        requires round { IsRound words.now place round.now }
+        requires action { IsCurrentAction words.now place action.now }
         requires sizes { AreSized words.now self.now }
         ensures { (known : Declared) → AreTables known words.now self.now →
             IfSome (slice_get words.now place) (λ w. option_map (λ type. type.now) result
@@ -58,7 +58,7 @@ impl Tables {
         if !is_variable(text) {
             return self.names.objects.first(text);
         }
-        match round.params.number(text) {
+        match action.params.number(text) {
             Some(param) => Some(self.text_at(words, self.types[param as usize])),
             None => None,
         }
@@ -85,11 +85,11 @@ impl Tables {
         &self,
         words: &List<Word>,
         place: usize,
-        round: &Round,
+        action: &CurrentAction,
         from: usize,
     ) -> bool
         requires place { place < length words.now }
-        requires round { IsRound words.now place round.now }
+        requires action { IsCurrentAction words.now place action.now }
         requires from { AreTermsFrom words.now place from }
         requires sizes { AreSized words.now self.now }
         ensures { (known : Declared) → AreTables known words.now self.now →
@@ -100,7 +100,7 @@ impl Tables {
         if !is_term(word) {
             return false;
         }
-        match self.term_type(words, place, round, &word.text) {
+        match self.term_type(words, place, action, &word.text) {
             Some(found) => match self.due_type(words, place, from) {
                 Some(due) => !self.names.tree.is_below(found, due),
                 None => false,

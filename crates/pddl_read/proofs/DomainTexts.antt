@@ -1,4 +1,4 @@
--- Each text is of one domain or has one first fault, never both; so an answer that is right is the only one.
+-- Each text has one domain or one first fault, never both; so a right answer is the only one.
 use Rattle.std.proofs.Common.{◌≡◌, ℕ, List, Result, Ok, Err, sym, subst, inl, inr}
 use Rattle.std.specs.Prelude.{◌⊎◌, IfOk}
 use Rattle.pddl_text.specs.declared.fault.TextFault.{TextFault}
@@ -28,7 +28,7 @@ module _ (bytes : List ℕ) where
   exact : IsExact (said_of part.Domain nothing bytes) (IsSaid part.Domain nothing bytes) (IsUnsaid part.Domain nothing bytes)
   exact = said_exact part.Domain domain nothing bytes
 
-  -- what a text of the grammar says, where it breaks no rule of names, is a domain
+  -- a text of the grammar that breaks no rule of names says a domain
   domain_said : (said : List Word) → IsSaid part.Domain nothing bytes said → (a : Domain) × SaysDomain said a
   domain_said said is =
       let formed = subst AreFormed (sym is.words) (are_formed part.Domain bytes is.forest is.met is.spelled is.form) in
@@ -60,7 +60,7 @@ module _ (bytes : List ℕ) where
   answered (Err (stop.Fault found)) ok fault a is = not_both a found is fault
   answered (Err stop.NoMemory) ok fault a is = tt
 
-  pub told : (result : Result Domain ReadStop) → IfOk result (IsDomainText bytes) → IfFault result (IsDomainFault bytes) → (f : TextFault) → IsDomainFault bytes f → AnswersFault result f
-  told (Ok found) ok fault f is = not_both found f ok is
-  told (Err (stop.Fault found)) ok fault f is = one_fault found f fault is
-  told (Err stop.NoMemory) ok fault f is = tt
+  pub refused : (result : Result Domain ReadStop) → IfOk result (IsDomainText bytes) → IfFault result (IsDomainFault bytes) → (f : TextFault) → IsDomainFault bytes f → AnswersFault result f
+  refused (Ok found) ok fault f is = not_both found f ok is
+  refused (Err (stop.Fault found)) ok fault f is = one_fault found f fault is
+  refused (Err stop.NoMemory) ok fault f is = tt

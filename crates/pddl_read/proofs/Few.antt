@@ -1,4 +1,4 @@
--- The lists of a vocabulary that words say are short where the words are few.
+-- The lists of a vocabulary that words say are short if the words are few.
 use Rattle.std.proofs.Common.{ℕ, ◌+◌, ◌<◌, ◌≤◌, List, length, ap, arith}
 use Rattle.model_kit.specs.declared.vocabulary.Vocabulary.{Vocabulary}
 use Rattle.pddl_names.specs.declared.role.Word.{Word}

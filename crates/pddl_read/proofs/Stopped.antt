@@ -1,4 +1,4 @@
--- What a reading stops at is the same, whatever value it would have given.
+-- What holds of the fault of a reading may be weakened, and holds for readings of other values.
 use Rattle.std.proofs.Common.{Err}
 use Rattle.pddl_text.specs.declared.fault.TextFault.{TextFault}
 use Rattle.pddl_text.specs.declared.fault.ReadStop.{ReadStop}

@@ -1,5 +1,5 @@
--- Which bytes are the text of a domain or of a problem, the domain or the model that they say, and
--- the first fault of bytes that are none.
+-- The bytes that are the text of a domain or of a problem, with its domain or model, and the first
+-- fault of other bytes.
 use Rattle.std.specs.Prelude.{ℕ, ◌<◌, ◌^◌, List, length}
 use Rattle.pddl_text.specs.declared.fault.TextFault.{TextFault}
 use Rattle.pddl_form.specs.declared.parts.Part.TheVariants as part

@@ -1,10 +1,11 @@
+//! Laws of the readings: each text has exactly one.
 ghost use Rattle.std.specs.Prelude.{◌≡◌, ◌⊎◌, ℕ, List};
 ghost use Rattle.pddl_text.specs.declared.fault.TextFault.{TextFault};
 ghost use Rattle.model_kit.specs.declared.model.Model.{Model};
 ghost use Rattle.pddl_models.specs.declared.domain.Domain.{Domain};
 ghost use Rattle.pddl_read.specs.Texts.{IsDomainText, IsDomainFault, IsProblemText, IsProblemFault};
 
-/// Each text is of a domain or has a first fault, never both, and only one of either.
+/// Each text has one domain or one first fault, and never both.
 pub fn law_domains()
     ensures either { (bytes : List ℕ) →
         ((domain : Domain) × IsDomainText bytes domain)
@@ -17,8 +18,7 @@ pub fn law_domains()
         IsDomainFault bytes fault → IsDomainFault bytes other → fault ≡ other }
 {}
 
-/// Behind a domain, each text is of a model or has a first fault, never both, and only one of
-/// either.
+/// For each domain, each text of a problem has one model or one first fault, and never both.
 pub fn law_problems()
     ensures either { (domain : Domain) (bytes : List ℕ) →
         ((model : Model) × IsProblemText domain bytes model)

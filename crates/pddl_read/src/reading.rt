@@ -1,3 +1,4 @@
+//! Reads the bytes of domains and problems.
 ghost use Rattle.std.specs.Prelude.{◌<◌, ◌^◌, length, IfOk};
 ghost use Rattle.pddl_text.specs.Answers.{IfFault, AnswersOk, AnswersFault};
 ghost use Rattle.pddl_text.specs.declared.fault.TextFault as faults;
@@ -56,7 +57,7 @@ fn domain_words(alloc: Global, bytes: &[u8]) -> Result<List<Word>, ReadStop>
     }
 }
 
-// The words of the text of a problem of a domain with this vocabulary, or its first fault.
+// The words of the text of a problem of the domain, or its first fault.
 fn problem_words(alloc: Global, bytes: &[u8], domain: &Domain) -> Result<List<Word>, ReadStop>
     requires short { length bytes.now < 2 ^ 28 }
     ensures said { IfOk result (IsSaid part.Problem (declared_by domain.now.words) bytes.now) }
@@ -85,7 +86,7 @@ fn problem_words(alloc: Global, bytes: &[u8], domain: &Domain) -> Result<List<Wo
     }
 }
 
-// The domain that the words say.
+// The domain of well-named words.
 fn domain_said(alloc: Global, said: &List<Word>) -> Result<Domain, NoMemory>
     requires few { length said.now < 2 ^ 28 }
     requires named { IsNamed nothing said.now }
@@ -97,7 +98,7 @@ fn domain_said(alloc: Global, said: &List<Word>) -> Result<Domain, NoMemory>
     domain_of(alloc, words, said)
 }
 
-// The model that the words of a problem say behind the domain.
+// The model of a well-named problem of the domain, from its words.
 fn model_said(alloc: Global, domain: &Domain, said: &List<Word>) -> Result<Model, NoMemory>
     requires domain { AreFew domain.now.words (2 ^ 29) }
     requires few { length said.now < 2 ^ 28 }
@@ -112,22 +113,18 @@ fn model_said(alloc: Global, domain: &Domain, said: &List<Word>) -> Result<Model
 }
 
 /// The domain of a text of PDDL (STRIPS with typing, constants and action costs), or the text's
-/// first
-/// fault: the first place where it breaks a rule of words and lists, else the first token that no
-/// domain
-/// has behind the tokens before it, else the first word that breaks a rule of names, with the word
-/// there
-/// and the first rule that it breaks. Entries are numbered in the order in which the text first
-/// names
-/// them; `object` is the first type, and `total-cost` is no function.
+/// first fault: the first place where it breaks a rule of words and lists, else the first token
+/// that no domain has after the tokens before it, else the first word that breaks a rule of names,
+/// with the word there and the first rule that it breaks. Entries are numbered in the order in
+/// which the text first names them; `object` is the first type, and `total-cost` isn't a function.
 pub fn read_domain(alloc: Global, bytes: &[u8]) -> Result<Domain, ReadStop>
     requires short { length bytes.now < 2 ^ 28 }
 
-    // What is answered is the domain of the text, and its first fault.
+    // The answer is the domain of the text, or its first fault.
     ensures ok { IfOk result (IsDomainText bytes.now) }
     ensures fault { IfFault result (IsDomainFault bytes.now) }
 
-    // A text that is a domain is answered, and so is a first fault.
+    // Each domain of the text is the answer, and so is each first fault.
     ensures succeeds { (domain : domains.Domain) → IsDomainText bytes.now domain →
         AnswersOk result domain }
     ensures refuses { (fault : faults.TextFault) → IsDomainFault bytes.now fault →
@@ -142,21 +139,19 @@ pub fn read_domain(alloc: Global, bytes: &[u8]) -> Result<Domain, ReadStop>
     }
 }
 
-/// The model of a domain and a text of one of its problems, or the text's first fault, as
-/// `read_domain`
-/// tells it. The domain's names stand as declared before the text; the problem's objects follow the
-/// domain's constants. Without the metric each action costs 1; with it an action costs what its
-/// increase
-/// says, and 0 where it has none.
+/// The model of a domain and a text of one of its problems, or the text's first fault, as in
+/// `read_domain`. The domain's names count as declared before the text; the problem's objects
+/// follow the domain's constants. Without the metric each action costs 1; with it an action costs
+/// what its increase says, or 0 if it has none.
 pub fn read_problem(alloc: Global, bytes: &[u8], domain: &Domain) -> Result<Model, ReadStop>
     requires short { length bytes.now < 2 ^ 28 }
     requires domain { AreFew domain.now.words (2 ^ 29) }
 
-    // What is answered is the model of the text, and its first fault.
+    // The answer is the model of the text, or its first fault.
     ensures ok { IfOk result (IsProblemText domain.now bytes.now) }
     ensures fault { IfFault result (IsProblemFault domain.now bytes.now) }
 
-    // A text that is a problem of the domain is answered, and so is a first fault.
+    // Each model of the text is the answer, and so is each first fault.
     ensures succeeds { (model : models.Model) → IsProblemText domain.now bytes.now model →
         AnswersOk result model }
     ensures refuses { (fault : faults.TextFault) → IsProblemFault domain.now bytes.now fault →

@@ -1,4 +1,4 @@
--- What stays when the fault of a reading is described in weaker words.
+-- What holds of a fault may be weakened.
 use Rattle.std.proofs.Common.{Result, Ok, Err}
 use Rattle.pddl_text.specs.declared.fault.TextFault.{TextFault}
 use Rattle.pddl_text.specs.declared.fault.Stop.{Stop}

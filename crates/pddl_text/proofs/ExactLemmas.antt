@@ -1,4 +1,5 @@
--- What follows for a reader's answers, where a reading on lists gives exactly what two relations say of the bytes.
+-- What follows for a reader's answers if a reading on lists gives exactly what two relations say of
+-- the bytes.
 use Rattle.std.proofs.Common.{◌≡◌, Result, Ok, Err, refl, inl, inr}
 use Rattle.std.specs.Prelude.{◌⊎◌, IfOk}
 use Rattle.pddl_text.specs.declared.fault.TextFault.{TextFault}
@@ -6,7 +7,7 @@ use Rattle.pddl_text.specs.declared.fault.ReadStop.{ReadStop}
 use Rattle.pddl_text.specs.declared.fault.ReadStop.TheVariants as stop
 use Rattle.pddl_text.specs.Answers.{IfFault, AnswersOk, AnswersFault, Gives}
 
--- the reading gives a value exactly where the bytes spell it, and a fault exactly where they break a rule so
+-- the reading gives a value exactly if the bytes spell it, and a fault exactly if it is theirs
 pub record IsExact {A : Type 0} (read : Result A TextFault) (Spells : A → Type 0) (Breaks : TextFault → Type 0) : Type 0 where
   pub spelled : (value : A) → Spells value → read ≡ Ok value
   pub is_spelled : (value : A) → read ≡ Ok value → Spells value
@@ -58,7 +59,7 @@ module _ {A : Type 0} (read : Result A TextFault) (Spells : A → Type 0) (Break
   gives_broken (Err (stop.Fault found)) gives fault breaks = fault-inj found fault gives (exact.broken fault breaks)
   gives_broken (Err stop.NoMemory) gives fault breaks = tt
 
-  -- what follows from the spelling alone
+  -- what follows from the spelling only
   pub gives_also : (Q : A → Type 0) → ((value : A) → Spells value → Q value) → (result : Result A ReadStop) → Gives result read → IfOk result (λ value. Q value)
   gives_also Q weaker (Ok value) gives = weaker value (exact.is_spelled value gives)
   gives_also Q weaker (Err why) gives = tt

@@ -1,4 +1,4 @@
--- A plan's lines and words are no more than its bytes, and each line has a word.
+-- A plan has no more lines and words than bytes, and each line has a word.
 use Rattle.std.proofs.Common.{ℕ, ◌+◌, ◌<◌, ◌≤◌, List, [], ◌∷◌, ◌++◌, length, ap, ◌∙◌, arith, length-append}
 use Rattle.std.specs.List.{All, AllByRecursion, join_with_byte}
 use Rattle.std.proofs.lemmas.List.Elements.{All-from_recursion}
@@ -23,7 +23,7 @@ line_few line bytes words is =
 kept_few : (row : List ℕ) → length (kept row) ≤ length row
 kept_few row = let front = kept_front row in omega (arith, ap length front.1, length-append (kept row) front.0)
 
--- how many bytes the rows have together, without the line feeds between them
+-- the number of bytes in the rows, without the line feeds between them
 abbrev total : List (List ℕ) → ℕ
 total [] = 0
 total (row ∷ rows) = length row + total rows

@@ -8,14 +8,14 @@ use Rattle.pddl_text.specs.declared.tree.Tree.{Tree}
 use Rattle.pddl_text.specs.Forests.{Spells, IsFirstFault, tokens_of_all}
 use Rattle.pddl_text.specs.Places.{start, past_of}
 use Rattle.pddl_text.specs.Reading.{Nothing, tokens_from, trees_from, with_past, trees_of, forest_of}
-use Rattle.pddl_text.specs.Spans.{StandsIn, SpansAscend}
+use Rattle.pddl_text.specs.Spans.{IsTokenIn, SpansAscend}
 use Rattle.pddl_text.specs.Tokens.{Token, HasTokens}
 use Rattle.pddl_text.proofs.ExactLemmas.{IsExact}
-use Rattle.pddl_text.proofs.SpanLemmas.{words_stand, spans_ascend, tokens_few}
+use Rattle.pddl_text.proofs.SpanLemmas.{words_are_in, spans_ascend, tokens_few}
 use Rattle.pddl_text.proofs.TokenLemmas.{tokens_are, has_tokens}
 use Rattle.pddl_text.proofs.TreeLemmas.{made, read_back, read_tokens, read_low, fault_in, reads_fault}
 
--- what is read, with where the text ends
+-- what is read, with the end of the text
 abbrev grown : Forest → Result Forest TextFault
 grown forest = Ok forest
 
@@ -71,8 +71,8 @@ forest_exact bytes = record {
   is_broken = failed_is_broken bytes;
 }
 
-pub spelled_words : (bytes : List ℕ) (forest : Forest) → Spells bytes forest → AllByRecursion (StandsIn bytes) (tokens_of_all forest.trees)
-spelled_words bytes forest spells = words_stand bytes (tokens_of_all forest.trees) spells.tokens
+pub spelled_words : (bytes : List ℕ) (forest : Forest) → Spells bytes forest → AllByRecursion (IsTokenIn bytes) (tokens_of_all forest.trees)
+spelled_words bytes forest spells = words_are_in bytes (tokens_of_all forest.trees) spells.tokens
 
 pub spelled_spans : (bytes : List ℕ) (forest : Forest) → Spells bytes forest → SpansAscend 0 (length bytes) (tokens_of_all forest.trees)
 spelled_spans bytes forest spells =

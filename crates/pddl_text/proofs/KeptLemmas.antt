@@ -1,4 +1,4 @@
--- What is kept of a row, while its bytes are gone through from the first.
+-- The kept bytes of a row, as its bytes are visited from the first.
 use Rattle.std.proofs.Common.{◌≡◌, ℕ, ◌+◌, ◌<◌, Bool, true, false, cond, List, [], ◌∷◌, ◌++◌, length, get_or, take, drop, sym, refl, arith, add-one, append_assoc}
 use Rattle.std.specs.Prelude.{◌==◌}
 use Rattle.std.proofs.Math.Seq.{take-suc, drop-cons}
@@ -6,7 +6,7 @@ use Rattle.std.proofs.lemmas.Bool.Decides.{nat_tests}
 use Rattle.pddl_text.specs.Bytes.{is_blank}
 use Rattle.pddl_text.specs.Plans.{is_empty_row, kept}
 
--- what is kept, where the bytes before a place were gone through, and the last of them that is kept ends here
+-- the kept bytes, where the bytes before a place were visited and the kept ones among them end here
 abbrev pub kept_at : List ℕ → ℕ → ℕ → List ℕ
 kept_at row place end = cond (is_empty_row (drop place row)) (take end row) (take place row ++ kept (drop place row))
 
@@ -22,7 +22,7 @@ pub kept_nothing : (row : List ℕ) → is_empty_row row ≡ true → kept row �
 kept_nothing [] is = refl
 kept_nothing (b ∷ row) is = rw is refl
 
--- a blank is gone past
+-- a blank is passed
 blank_more : (front ended rest : List ℕ) (b : ℕ) → (b == 59) ≡ false → is_blank b ≡ true
     → cond (is_empty_row (b ∷ rest)) ended (front ++ kept (b ∷ rest)) ≡ cond (is_empty_row rest) ended ((front ++ b ∷ []) ++ kept rest)
 blank_more front ended rest b other blank = blank_of (is_empty_row rest) refl
@@ -31,7 +31,7 @@ blank_more front ended rest b other blank = blank_of (is_empty_row rest) refl
     blank_of true is = rw (other, blank, is) refl
     blank_of false is = rw (other, blank, is) (sym (append_assoc front (b ∷ []) (kept rest)))
 
--- a byte that is kept is gone past
+-- a kept byte is passed
 solid_more : (front ended rest : List ℕ) (b : ℕ) → (b == 59) ≡ false → is_blank b ≡ false
     → cond (is_empty_row (b ∷ rest)) ended (front ++ kept (b ∷ rest)) ≡ cond (is_empty_row rest) (front ++ b ∷ []) ((front ++ b ∷ []) ++ kept rest)
 solid_more front ended rest b other solid = solid_of (is_empty_row rest) refl

@@ -1,4 +1,4 @@
--- A row is read as the names of a line exactly where it is a line of the form.
+-- A row is read as the names of a line exactly if it is a line of the form.
 use Rattle.std.proofs.Common.{◌≡◌, ℕ, ◌+◌, ◌<◌, Bool, true, false, cond, List, [], ◌∷◌, ◌++◌, length, Option, Some, None, Result, Ok, sym, ap, subst, ◌∙◌, refl, arith, append_assoc, length-append}
 use Rattle.std.specs.Prelude.{◌==◌, ◌&&◌, nat_lt}
 use Rattle.std.specs.Char.{to_ascii_lowercase}
@@ -31,7 +31,7 @@ in_row words row = record { words = words; row = row }
 
 -- ---- a line of the form is read
 
--- what is read does not change with the way in which its column is counted
+-- equal columns give equal readings
 same_column : (state : RowState) (line one two : ℕ) (bytes : List ℕ) → one ≡ two → row_from state (at line one) bytes ≡ row_from state (at line two) bytes
 same_column state line one two bytes is = ap (λ (n : ℕ). row_from state (at line n) bytes) is
 
@@ -115,12 +115,12 @@ read-inj one two e =
     let same : record { words = one } ≡ record { words = two } = cc in
     ap (λ (line : PlanLine). line.words) same
 
--- behind the `)` stand blanks
+-- after the `)` are blanks
 record TakesTrail (bytes : List ℕ) (before words : Words) : Type 0 where
   blank : AreBlank bytes
   words-is : before ≡ words
 
--- inside the parentheses stand names, up to the `)`
+-- inside the parentheses are names, up to the `)`
 record TakesInside (line column : ℕ) (bytes : List ℕ) (before words : Words) : Type 0 where
   inside : List ℕ
   trail : List ℕ
@@ -131,7 +131,7 @@ record TakesInside (line column : ℕ) (bytes : List ℕ) (before words : Words)
   words-is : words ≡ before ++ more
   named : 0 < length words
 
--- inside a name stand its further letters, and then further names
+-- inside a name are its further letters, and then further names
 record TakesName (line column : ℕ) (bytes : List ℕ) (text : Text) (from : Place) (before words : Words) : Type 0 where
   letters : List ℕ
   inside : List ℕ
@@ -145,13 +145,13 @@ record TakesName (line column : ℕ) (bytes : List ℕ) (text : Text) (from : Pl
   words-is : words ≡ before ++ (text ++ str_to_ascii_lowercase letters, from) ∷ more
   named : 0 < length words
 
--- what bytes that are read are, in each state that a row can be in
+-- the form of bytes that are read, in each state that a row can be in
 record Takes (line : ℕ) (bytes : List ℕ) : Type 0 where
   closed : (before words : Words) (column : ℕ) → row_from (in_row before Closed) (at line column) bytes ≡ read words → TakesTrail bytes before words
   inside : (before words : Words) (column : ℕ) → row_from (in_row before Inside) (at line column) bytes ≡ read words → TakesInside line column bytes before words
   name : (text : Text) (from : Place) (before words : Words) (column : ℕ) → row_from (in_row before (InName text from)) (at line column) bytes ≡ read words → TakesName line column bytes text from before words
 
--- the rest of a row, where its first byte leads to this state
+-- the rest of a row, after a byte that leads to this state
 abbrev pub then_from : Option RowState → ℕ → ℕ → List ℕ → Read
 then_from state line column bytes = goes_on state (at line column) (λ next. row_from next (at line (column + 1)) bytes)
 
@@ -283,7 +283,7 @@ takes line (b ∷ bytes) = record {
   name = name_takes line b bytes (takes line bytes) (is_word_byte b) refl;
 }
 
--- before the `(` stand blanks
+-- before the `(` are blanks
 record TakesLead (line column : ℕ) (bytes : List ℕ) (before words : Words) : Type 0 where
   lead : List ℕ
   inside : List ℕ

@@ -1,10 +1,11 @@
--- A text spells exactly the lines of a plan that it is read as, and leaves the form exactly where its reading stops.
+-- A text spells exactly the lines of a plan that it is read as, and leaves the form exactly where
+-- its reading stops.
 use Rattle.std.proofs.Common.{◌≡◌, ℕ, ◌+◌, Bool, true, false, List, [], ◌∷◌, ◌++◌, Result, Ok, Err, sym, ap, subst, ◌∙◌, refl, append_assoc}
 use Rattle.std.proofs.lemmas.List.{append-nil}
 use Rattle.std.proofs.lemmas.Bool.{false≢true}
 use Rattle.pddl_text.specs.declared.fault.TextFault.{TextFault}
 use Rattle.pddl_text.specs.declared.plan.PlanLine.{PlanLine}
-use Rattle.pddl_text.specs.Plans.{rows_of, is_empty_row, kept, RowsSpell, end, empty, full, SpellsPlan, RowsFail, here, behind_empty, behind_full, LeavesPlan}
+use Rattle.pddl_text.specs.Plans.{rows_of, is_empty_row, kept, RowsSpell, end, empty, full, SpellsPlan, RowsFail, here, after_empty, after_full, LeavesPlan}
 use Rattle.pddl_text.specs.PlanReading.{line_of, adds, row_then, rows_from, lines_of}
 use Rattle.pddl_text.proofs.ExactLemmas.{IsExact}
 use Rattle.pddl_text.proofs.KeptLemmas.{kept_nothing}
@@ -67,9 +68,9 @@ spelled_rows (full {line = line} row {rows = rows} {words = words} {lines = more
 failing_rows : {line : ℕ} {rows : List (List ℕ)} {fault : TextFault} → RowsFail line rows fault → (lines : List PlanLine) → rows_from lines line rows ≡ all_failed fault
 failing_rows (here {line = line} row {rows = rows} {column = column} some left) lines =
     failed_then line (kept row) (form_at line column) lines (λ all. rows_from all (line + 1) rows) (nonempty row some) (left_is_stopped line (kept row) column left)
-failing_rows (behind_empty {line = line} {row = row} {rows = rows} is more) lines =
+failing_rows (after_empty {line = line} {row = row} {rows = rows} is more) lines =
     empty_then line (kept row) lines (λ all. rows_from all (line + 1) rows) (kept_nothing row is) ∙ failing_rows more lines
-failing_rows (behind_full {line = line} row {rows = rows} {words = words} is more) lines =
+failing_rows (after_full {line = line} row {rows = rows} {words = words} is more) lines =
     full_then line (kept row) words lines (λ all. rows_from all (line + 1) rows) (line_is_read line (kept row) words is) ∙ failing_rows more (lines ++ named words ∷ [])
 
 -- ---- what is read is spelled
@@ -119,12 +120,12 @@ row_stopped line row rows fault some e =
 
 full_fails : (line : ℕ) (row : List ℕ) (rows : List (List ℕ)) (lines : List PlanLine) (fault : TextFault) → is_empty_row row ≡ false → FailsFrom (line + 1) rows → (result : Read) → line_of line (kept row) ≡ result
     → adds result lines (λ more. rows_from more (line + 1) rows) ≡ all_failed fault → RowsFail line (row ∷ rows) fault
-full_fails line row rows lines fault some rest (Ok one) is e = behind_full row (read_is_line line (kept row) one.words is) (rest (lines ++ one ∷ []) fault e)
+full_fails line row rows lines fault some rest (Ok one) is e = after_full row (read_is_line line (kept row) one.words is) (rest (lines ++ one ∷ []) fault e)
 full_fails line row rows lines fault some rest (Err found) is e = let same : found ≡ fault = cc in row_stopped line row rows fault some (is ∙ ap failed same)
 
 row_fails : (line : ℕ) (row : List ℕ) (rows : List (List ℕ)) (lines : List PlanLine) (fault : TextFault) → FailsFrom (line + 1) rows → (bytes : List ℕ) → kept row ≡ bytes
     → row_then line bytes lines (λ more. rows_from more (line + 1) rows) ≡ all_failed fault → RowsFail line (row ∷ rows) fault
-row_fails line row rows lines fault rest [] is e = behind_empty (kept_is_nothing row is) (rest lines fault e)
+row_fails line row rows lines fault rest [] is e = after_empty (kept_is_nothing row is) (rest lines fault e)
 row_fails line row rows lines fault rest (b ∷ bytes) is e =
     full_fails line row rows lines fault (filled row b bytes (is_empty_row row) refl is) rest (line_of line (b ∷ bytes)) (ap (line_of line) is) e
 

@@ -1,4 +1,4 @@
--- How a text is cut at its line feeds, from a place on where a row begins.
+-- How a text is cut at its line feeds, from the beginning of a row on.
 use Rattle.std.proofs.Common.{◌≡◌, ◌≢◌, ℕ, ◌+◌, ◌-◌, ◌<◌, ◌≤◌, true, false, List, [], ◌∷◌, ◌++◌, length, get_or, drop, Result, Err, sym, ap, subst, ◌∙◌, arith}
 use Rattle.std.specs.Prelude.{◌==◌, slice_range}
 use Rattle.std.specs.List.{AllByRecursion}
@@ -19,7 +19,7 @@ use Rattle.pddl_text.proofs.TokenLemmas.{all-append, not_feed}
 is_feed : (b : ℕ) → b ≡ 10 → (b == 10) ≡ true
 is_feed b is = grind (arith, nat_tests)
 
--- no line feed stands from one place on and before another
+-- no line feed is at a place from `first` on and before `place`
 abbrev pub IsOneRow : List ℕ → ℕ → ℕ → Type 0
 IsOneRow bytes first place = OnOneLine (slice_range bytes first place)
 
@@ -54,7 +54,7 @@ row_last bytes first row =
     subst (λ (part : List ℕ). rows_of part ≡ slice_range bytes first (length bytes) ∷ []) (take_rest bytes first)
     (slice_split_none (λ b. b == 10) (slice_range bytes first (length bytes)) (All-from_recursion _ _ (plain_row _ row)))
 
--- where the next row stops the reading, the whole plan is read so
+-- a row that stops the reading stops that of the whole plan
 pub rows_stop : (why : Stop) (from : List (List ℕ) → Result (List PlanLine) TextFault) (rows : List (List ℕ)) (read : Result (List PlanLine) TextFault) → from rows ≡ read
     → IfStopped {A = Unit {0}} (Err why) (λ fault. (rows : List (List ℕ)) → from rows ≡ Err fault) → Finds (Err why) read
 rows_stop (early.Fault at rule) from rows read is stops = sym is ∙ stops rows

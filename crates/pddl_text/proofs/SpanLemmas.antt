@@ -1,4 +1,4 @@
--- The words of a text stand in its bytes where they say, one behind another.
+-- The words of a text are in its bytes where they say, one after another.
 use Rattle.std.proofs.Common.{◌≡◌, ℕ, ◌+◌, ◌-◌, ◌≤◌, List, [], ◌∷◌, ◌++◌, length, take, drop, sym, ap, subst, ◌∙◌, refl, arith, append_assoc, length-append}
 use Rattle.std.specs.Prelude.{slice_range}
 use Rattle.std.specs.List.{AllByRecursion}
@@ -7,7 +7,7 @@ use Rattle.std.proofs.Math.Seq.{take-append_seam, drop-append_seam}
 use Rattle.pddl_text.specs.declared.place.Place.{Place}
 use Rattle.pddl_text.specs.declared.place.Spot.{Spot}
 use Rattle.pddl_text.specs.Places.{start, after_all, past_of}
-use Rattle.pddl_text.specs.Spans.{StandsAt, StandsIn, SpansAscend}
+use Rattle.pddl_text.specs.Spans.{IsWordAt, IsTokenIn, SpansAscend}
 use Rattle.pddl_text.specs.Tokens.{Token, Word, Open, Close, Stray, HasTokens, end, white, comment, opening, closing, word, stray}
 use Rattle.pddl_text.proofs.TokenLemmas.{after_all-append, position-after_all}
 
@@ -18,7 +18,7 @@ spans_lower low from to (Open at ∷ tokens) below spans = spans_lower (low + 1)
 spans_lower low from to (Close at ∷ tokens) below spans = spans_lower (low + 1) (from + 1) to tokens (omega arith) spans
 spans_lower low from to (Stray at ∷ tokens) below spans = spans_lower (low + 1) (from + 1) to tokens (omega arith) spans
 
--- the spans behind some bytes, where the positions are counted otherwise
+-- the spans after some bytes, with positions counted by length
 spans_from : (s : Spot) (front rest : List ℕ) (tokens : List Token) → SpansAscend (after_all s front).position ((after_all s front).position + length rest) tokens
     → SpansAscend (s.position + length front) (s.position + length (front ++ rest)) tokens
 spans_from s front rest tokens spans =
@@ -38,9 +38,9 @@ spans_ascend (closing {s = s} {rest = bytes} {tokens = tokens} more) = spans_fro
 spans_ascend (word {s = s} b letters rest {tokens = tokens} all ends more) = (omega arith, omega arith, spans_from s (b ∷ letters) rest tokens (spans_ascend more))
 spans_ascend (stray {s = s} {b = b} {rest = bytes} {tokens = tokens} is more) = spans_from s (b ∷ []) bytes tokens (spans_ascend more)
 
--- a word behind a front of the bytes
-pub stands : (front letters rest : List ℕ) → StandsAt (front ++ (letters ++ rest)) (str_to_ascii_lowercase letters) (past_of front) (length front) (length front + length letters)
-stands front letters rest =
+-- a word after a front of the bytes
+pub word_at : (front letters rest : List ℕ) → IsWordAt (front ++ (letters ++ rest)) (str_to_ascii_lowercase letters) (past_of front) (length front) (length front + length letters)
+word_at front letters rest =
     let n-is : (length front + length letters) - length front ≡ length letters = omega arith in
     let part-is : slice_range (front ++ (letters ++ rest)) (length front) (length front + length letters) ≡ letters =
     ap (λ (n : ℕ). take n (drop (length front) (front ++ (letters ++ rest)))) n-is
@@ -51,42 +51,42 @@ stands front letters rest =
       place = ap past_of (sym (take-append_seam front (letters ++ rest)));
     }
 
-stands_here : (whole front letters rest : List ℕ) (s : Spot) → whole ≡ front ++ (letters ++ rest) → s ≡ after_all start front
-    → StandsAt whole (str_to_ascii_lowercase letters) s.place s.position (s.position + length letters)
-stands_here whole front letters rest s whole-is s-is =
+word_here : (whole front letters rest : List ℕ) (s : Spot) → whole ≡ front ++ (letters ++ rest) → s ≡ after_all start front
+    → IsWordAt whole (str_to_ascii_lowercase letters) s.place s.position (s.position + length letters)
+word_here whole front letters rest s whole-is s-is =
     let position-is : s.position ≡ length front = ap (λ (x : Spot). x.position) s-is ∙ position-after_all start front ∙ omega arith in
     let place-is : s.place ≡ past_of front = ap (λ (x : Spot). x.place) s-is in
-    subst (λ (bytes : List ℕ). StandsAt bytes (str_to_ascii_lowercase letters) s.place s.position (s.position + length letters)) (sym whole-is)
-    (subst (λ (n : ℕ). StandsAt (front ++ (letters ++ rest)) (str_to_ascii_lowercase letters) s.place n (n + length letters)) (sym position-is)
-    (subst (λ (at : Place). StandsAt (front ++ (letters ++ rest)) (str_to_ascii_lowercase letters) at (length front) (length front + length letters)) (sym place-is)
-    (stands front letters rest)))
+    subst (λ (bytes : List ℕ). IsWordAt bytes (str_to_ascii_lowercase letters) s.place s.position (s.position + length letters)) (sym whole-is)
+    (subst (λ (n : ℕ). IsWordAt (front ++ (letters ++ rest)) (str_to_ascii_lowercase letters) s.place n (n + length letters)) (sym position-is)
+    (subst (λ (at : Place). IsWordAt (front ++ (letters ++ rest)) (str_to_ascii_lowercase letters) at (length front) (length front + length letters)) (sym place-is)
+    (word_at front letters rest)))
 
--- some more bytes go to the front
+-- a further part of the bytes is moved to the front
 moved : (whole front part rest : List ℕ) → whole ≡ front ++ (part ++ rest) → whole ≡ (front ++ part) ++ rest
 moved whole front part rest whole-is = whole-is ∙ sym (append_assoc front part rest)
 
 moved_spot : (front part : List ℕ) (s : Spot) → s ≡ after_all start front → after_all s part ≡ after_all start (front ++ part)
 moved_spot front part s s-is = ap (λ (x : Spot). after_all x part) s-is ∙ sym (after_all-append start front part)
 
-words_behind : {s : Spot} {bytes : List ℕ} {tokens : List Token} → HasTokens s bytes tokens → (whole front : List ℕ) → whole ≡ front ++ bytes → s ≡ after_all start front → AllByRecursion (StandsIn whole) tokens
-words_behind end whole front whole-is s-is = tt
-words_behind (white {s = s} {b = b} {rest = bytes} is more) whole front whole-is s-is =
-    words_behind more whole (front ++ b ∷ []) (moved whole front (b ∷ []) bytes whole-is) (moved_spot front (b ∷ []) s s-is)
-words_behind (comment {s = s} inside rest plain ends more) whole front whole-is s-is =
-    words_behind more whole (front ++ 59 ∷ inside) (moved whole front (59 ∷ inside) rest whole-is) (moved_spot front (59 ∷ inside) s s-is)
-words_behind (opening {s = s} {rest = bytes} more) whole front whole-is s-is =
-    (tt, words_behind more whole (front ++ 40 ∷ []) (moved whole front (40 ∷ []) bytes whole-is) (moved_spot front (40 ∷ []) s s-is))
-words_behind (closing {s = s} {rest = bytes} more) whole front whole-is s-is =
-    (tt, words_behind more whole (front ++ 41 ∷ []) (moved whole front (41 ∷ []) bytes whole-is) (moved_spot front (41 ∷ []) s s-is))
-words_behind (word {s = s} b letters rest all ends more) whole front whole-is s-is = (
-  stands_here whole front (b ∷ letters) rest s whole-is s-is,
-  words_behind more whole (front ++ b ∷ letters) (moved whole front (b ∷ letters) rest whole-is) (moved_spot front (b ∷ letters) s s-is),
+words_after : {s : Spot} {bytes : List ℕ} {tokens : List Token} → HasTokens s bytes tokens → (whole front : List ℕ) → whole ≡ front ++ bytes → s ≡ after_all start front → AllByRecursion (IsTokenIn whole) tokens
+words_after end whole front whole-is s-is = tt
+words_after (white {s = s} {b = b} {rest = bytes} is more) whole front whole-is s-is =
+    words_after more whole (front ++ b ∷ []) (moved whole front (b ∷ []) bytes whole-is) (moved_spot front (b ∷ []) s s-is)
+words_after (comment {s = s} inside rest plain ends more) whole front whole-is s-is =
+    words_after more whole (front ++ 59 ∷ inside) (moved whole front (59 ∷ inside) rest whole-is) (moved_spot front (59 ∷ inside) s s-is)
+words_after (opening {s = s} {rest = bytes} more) whole front whole-is s-is =
+    (tt, words_after more whole (front ++ 40 ∷ []) (moved whole front (40 ∷ []) bytes whole-is) (moved_spot front (40 ∷ []) s s-is))
+words_after (closing {s = s} {rest = bytes} more) whole front whole-is s-is =
+    (tt, words_after more whole (front ++ 41 ∷ []) (moved whole front (41 ∷ []) bytes whole-is) (moved_spot front (41 ∷ []) s s-is))
+words_after (word {s = s} b letters rest all ends more) whole front whole-is s-is = (
+  word_here whole front (b ∷ letters) rest s whole-is s-is,
+  words_after more whole (front ++ b ∷ letters) (moved whole front (b ∷ letters) rest whole-is) (moved_spot front (b ∷ letters) s s-is),
 )
-words_behind (stray {s = s} {b = b} {rest = bytes} is more) whole front whole-is s-is =
-    (tt, words_behind more whole (front ++ b ∷ []) (moved whole front (b ∷ []) bytes whole-is) (moved_spot front (b ∷ []) s s-is))
+words_after (stray {s = s} {b = b} {rest = bytes} is more) whole front whole-is s-is =
+    (tt, words_after more whole (front ++ b ∷ []) (moved whole front (b ∷ []) bytes whole-is) (moved_spot front (b ∷ []) s s-is))
 
-pub words_stand : (bytes : List ℕ) (tokens : List Token) → HasTokens start bytes tokens → AllByRecursion (StandsIn bytes) tokens
-words_stand bytes tokens has = words_behind has bytes [] refl refl
+pub words_are_in : (bytes : List ℕ) (tokens : List Token) → HasTokens start bytes tokens → AllByRecursion (IsTokenIn bytes) tokens
+words_are_in bytes tokens has = words_after has bytes [] refl refl
 
 -- each token takes a byte or more
 pub tokens_few : (from to : ℕ) (tokens : List Token) → SpansAscend from to tokens → from + length tokens ≤ to

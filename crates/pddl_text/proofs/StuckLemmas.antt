@@ -1,4 +1,5 @@
--- The reading of a row stops exactly where the row leaves the form: behind bytes with which some line of the form begins.
+-- The reading of a row stops exactly where the row leaves the form: after bytes with which some
+-- line of the form begins.
 use Rattle.std.proofs.Common.{◌≡◌, ℕ, ◌+◌, true, List, [], ◌∷◌, ◌++◌, length, Option, Some, None, Ok, Err, sym, ap, subst, ◌∙◌, refl, arith, append_assoc, length-append, inl, inr}
 use Rattle.std.specs.Prelude.{◌⊎◌, nat_lt}
 use Rattle.std.proofs.lemmas.List.{append-nil}
@@ -12,7 +13,7 @@ use Rattle.pddl_text.specs.Plans.{IsLine, BeginsLine, IsStuck, LeavesForm}
 use Rattle.pddl_text.specs.PlanReading.{Row, Before, Inside, InName, Closed, RowState, row_step, row_end, row_from, row_start, line_of}
 use Rattle.pddl_text.proofs.LineLemmas.{Words, Read, read, at, in_row, then_from, line_is_read, read_is_line}
 
--- each state is led to the end of a line by some bytes
+-- from each state, some bytes lead to the end of a line
 record Completes (state : RowState) (line column : ℕ) : Type 0 where
   more : List ℕ
   words : Words
@@ -45,7 +46,7 @@ apart words fault e = cc
 abbrev Leads : RowState → ℕ → ℕ → List ℕ → RowState → Type 0
 Leads state line column front there = (rest : List ℕ) → row_from state (at line column) (front ++ rest) ≡ row_from there (at line (column + length front)) rest
 
--- in this state the rest of a row is stuck at its first byte, or ends too early
+-- in this state the reading stops at the first byte of the rest, or the row ends too early
 abbrev Stops : RowState → ℕ → ℕ → List ℕ → Type 0
 Stops state line column [] = row_end state.row state.words (at line column) ≡ failed (form_at line column)
 Stops state line column (b ∷ rest) = row_step state.row state.words (at line column) b ≡ None
@@ -123,7 +124,7 @@ begins_at line front there leads =
     let end = completes there.row there.words line (1 + length front) in
     (end.more, end.words, read_is_line line (front ++ end.more) end.words (leads end.more ∙ end.read-is))
 
--- a row that is not read leaves the form there
+-- a row that isn't read leaves the form there
 pub stopped_leaves : (line : ℕ) (bytes : List ℕ) (fault : TextFault) → line_of line bytes ≡ failed fault → (column : ℕ) × (fault ≡ form_at line column) × LeavesForm line bytes column
 stopped_leaves line bytes fault e =
     let stop = stops_in bytes row_start line 1 fault e in (
@@ -133,7 +134,7 @@ stopped_leaves line bytes fault e =
         before = stop.front;
         rest = stop.rest;
         parts = stop.parts;
-        behind = omega arith;
+        at = omega arith;
         goes_on = begins_at line stop.front stop.there stop.leads;
         stuck = stuck_at line stop.front stop.rest stop.there stop.leads stop.stops;
       },
@@ -181,9 +182,9 @@ rest_failed line front [] there leads stuck =
 rest_failed line front (b ∷ rest) there leads stuck =
     leads (b ∷ rest) ∙ steps_failed line b front rest there leads stuck (row_step there.row there.words (at line (1 + length front)) b) refl
 
--- a row that leaves the form is not read, and stops there
+-- the reading of a row that leaves the form stops there
 pub left_is_stopped : (line : ℕ) (bytes : List ℕ) (column : ℕ) → LeavesForm line bytes column → line_of line bytes ≡ failed (form_at line column)
 left_is_stopped line bytes column left =
     let found = begins_leads line left.before left.goes_on (way left.before row_start line 1) in
-    let column-is : 1 + length left.before ≡ column = omega (arith, left.behind) in
+    let column-is : 1 + length left.before ≡ column = omega (arith, left.at) in
     ap (line_of line) left.parts ∙ rest_failed line left.before left.rest found.0 found.1 left.stuck ∙ ap (λ (n : ℕ). failed (form_at line n)) column-is

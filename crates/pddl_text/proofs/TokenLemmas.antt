@@ -116,7 +116,7 @@ in_line_at b bytes rest false is s inside plain =
     subst (λ (x : Spot). HasTokens s (59 ∷ inside ++ b ∷ bytes) (tokens_from Comment x bytes)) (after_all-append s (59 ∷ inside) (b ∷ []))
     (subst (λ (xs : List ℕ). HasTokens s (59 ∷ xs) (tokens_from Comment (after_all s (59 ∷ inside ++ b ∷ [])) bytes)) (append_assoc inside (b ∷ []) bytes) more)
 
--- a byte behind a run of letters
+-- a byte after a run of letters
 in_run_at : (b : ℕ) (bytes : List ℕ) → Finds bytes → (t : Bool) → is_word_byte b ≡ t → (s : Spot) (c : ℕ) (letters : List ℕ) → AreWordBytes (c ∷ letters)
     → HasTokens s (c ∷ letters ++ b ∷ bytes) (cond t (tokens_from (InWord (map to_ascii_lowercase (c ∷ letters) ++ to_ascii_lowercase b ∷ []) s) (after (after_all s (c ∷ letters)) b) bytes)
     (Word (map to_ascii_lowercase (c ∷ letters)) s.place s.position (after_all s (c ∷ letters)).position ∷ tokens_at (kind b) (after_all s (c ∷ letters)) b (λ next. tokens_from next (after (after_all s (c ∷ letters)) b) bytes)))
@@ -144,6 +144,6 @@ finds (b ∷ bytes) = record {
 pub has_tokens : (s : Spot) (bytes : List ℕ) → HasTokens s bytes (tokens_from Nothing s bytes)
 has_tokens s bytes = (finds bytes).between s
 
--- the rules give a text no two lists of tokens
+-- the rules give a text only one list of tokens
 pub same_tokens : {s : Spot} {bytes : List ℕ} {one two : List Token} → HasTokens s bytes one → HasTokens s bytes two → one ≡ two
 same_tokens one two = sym (tokens_are one) ∙ tokens_are two

@@ -39,7 +39,7 @@ made-inj us vs e = cc
 
 -- ---- what the tokens of trees are read as
 
--- the tree's tokens are read as the tree, where its lists can be opened
+-- the tree's tokens are read as the tree, if its lists can be opened
 abbrev IsReadBack : Tree → Type 0
 IsReadBack t = (frames : List Frame) (trees : List Tree) (end : Place) (tokens : List Token) → length frames + height t ≤ 64
     → trees_from frames trees end (tokens_of t ++ tokens) ≡ trees_from frames (trees ++ t ∷ []) end tokens

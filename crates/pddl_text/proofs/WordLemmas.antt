@@ -1,4 +1,4 @@
--- The words of a plan's lines stand in its bytes where they say, one behind another.
+-- The words of a plan's lines are in its bytes where they say, one after another.
 use Rattle.std.proofs.Common.{◌≡◌, ◌≢◌, ℕ, ◌+◌, ◌≤◌, Bool, true, false, cond, List, [], ◌∷◌, ◌++◌, length, sym, ap, subst, ◌∙◌, refl, arith, append_assoc, length-append}
 use Rattle.std.specs.Prelude.{◌==◌}
 use Rattle.std.specs.List.{AllByRecursion, onto_first, join_with_byte}
@@ -14,8 +14,8 @@ use Rattle.pddl_text.specs.declared.plan.PlanLine.{PlanLine}
 use Rattle.pddl_text.specs.Bytes.{is_blank, is_space, is_name_start, is_word_byte, OnOneLine, AreWordBytes, AreBlank}
 use Rattle.pddl_text.specs.Places.{start, after, past_of}
 use Rattle.pddl_text.specs.Plans.{rows_of, is_empty_row, kept, AreNames, none, space, name, IsLine, RowsSpell, end, empty, full, SpellsPlan}
-use Rattle.pddl_text.specs.Spans.{StandsAt, WordsAscend, words_of}
-use Rattle.pddl_text.proofs.SpanLemmas.{stands}
+use Rattle.pddl_text.specs.Spans.{IsWordAt, WordsAscend, words_of}
+use Rattle.pddl_text.proofs.SpanLemmas.{word_at}
 use Rattle.pddl_text.proofs.TokenLemmas.{after_all-append, not_feed, no_feed}
 
 abbrev Words : Type 0
@@ -25,7 +25,7 @@ words_lower : (bytes : List ℕ) (low from : ℕ) (words : Words) → low ≤ fr
 words_lower bytes low from [] below ascend = omega arith
 words_lower bytes low from ((text, at) ∷ words) below ascend = (ascend.0, omega arith, ascend.2, ascend.3, ascend.4)
 
--- the byte behind the front stands here
+-- the byte after the front is at this place
 abbrev IsAt : List ℕ → ℕ → ℕ → Type 0
 IsAt front line column = past_of front ≡ record { line = line; column = column }
 
@@ -41,7 +41,7 @@ after_place front b line column other is =
     ∙ ap (λ (t : Bool). cond t (newline (past_of front)) (beside (past_of front))) (not_feed b other)
     ∙ ap beside is
 
--- bytes without a line feed stand on one line
+-- bytes without a line feed are on one line
 at_more : (part front : List ℕ) (line column : ℕ) → OnOneLine part → IsAt front line column → IsAt (front ++ part) line (column + length part)
 at_more [] front line column plain is = rw (append-nil front) (is ∙ ap (λ (n : ℕ). record { line = line; column = n }) (omega arith))
 at_more (b ∷ part) front line column plain is =
@@ -49,7 +49,7 @@ at_more (b ∷ part) front line column plain is =
     let column-is : (column + 1) + length part ≡ column + length (b ∷ part) = omega arith in
     ap past_of (sym (append_assoc front (b ∷ []) part)) ∙ more ∙ ap (λ (n : ℕ). record { line = line; column = n }) column-is
 
--- the next row begins behind the line feed
+-- the next row begins after the line feed
 at_next : (front : List ℕ) (line column : ℕ) → IsAt front line column → IsAt (front ++ 10 ∷ []) (line + 1) 1
 at_next front line column is = ap (λ (s : Spot). s.place) (after_all-append start front (10 ∷ [])) ∙ ap newline is
 
@@ -80,17 +80,17 @@ letters_plain = all_weaker (λ b. is_word_byte b ≡ true) (λ b. b ≢ 10) lett
 moved : (whole front part rest : List ℕ) → whole ≡ front ++ (part ++ rest) → whole ≡ (front ++ part) ++ rest
 moved whole front part rest is = is ∙ sym (append_assoc front part rest)
 
--- one name, and the words behind it
+-- one name, and the words after it
 one_ascends : (whole front letters rest : List ℕ) (b line column : ℕ) (more : Words) → whole ≡ front ++ ((b ∷ letters) ++ rest) → IsAt front line column → WordsAscend whole (length front + length (b ∷ letters)) more
     → WordsAscend whole (length front) ((str_to_ascii_lowercase (b ∷ letters), record { line = line; column = column }) ∷ more)
 one_ascends whole front letters rest b line column more whole-is place-is ascend =
     let text : Text = str_to_ascii_lowercase (b ∷ letters) in
     let length-is : length (b ∷ letters) ≡ length text = sym (length-map (b ∷ letters) to_ascii_lowercase) in
-    let standing : StandsAt whole text (past_of front) (length front) (length front + length (b ∷ letters)) = subst (λ (bytes : List ℕ). StandsAt bytes text (past_of front) (length front) (length front + length (b ∷ letters))) (sym whole-is) (stands front (b ∷ letters) rest) in (
+    let found : IsWordAt whole text (past_of front) (length front) (length front + length (b ∷ letters)) = subst (λ (bytes : List ℕ). IsWordAt bytes text (past_of front) (length front) (length front + length (b ∷ letters))) (sym whole-is) (word_at front (b ∷ letters) rest) in (
       length front,
       omega arith,
       omega arith,
-      subst (λ (at : Place). StandsAt whole text at (length front) (length front + length text)) place-is (subst (λ (n : ℕ). StandsAt whole text (past_of front) (length front) (length front + n)) length-is standing),
+      subst (λ (at : Place). IsWordAt whole text at (length front) (length front + length text)) place-is (subst (λ (n : ℕ). IsWordAt whole text (past_of front) (length front) (length front + n)) length-is found),
       subst (λ (n : ℕ). WordsAscend whole (length front + n) more) length-is ascend,
     )
 
@@ -108,10 +108,10 @@ names_ascend (name {line = line} {column = column} b letters after {words = word
     let whole-at : whole ≡ front ++ ((b ∷ letters) ++ (after ++ rest)) = whole-is ∙ ap (λ (xs : List ℕ). front ++ (b ∷ xs)) (append_assoc letters after rest) in
     let end-is : length front + length ((b ∷ letters) ++ after) ≡ length longer + length after = omega (arith, length-append front (b ∷ letters), length-append letters after) in
     let past-is : length longer ≡ length front + length (b ∷ letters) = length-append front (b ∷ letters) in
-    let behind = names_ascend names whole longer rest more (moved whole front (b ∷ letters) (after ++ rest) whole-at)
+    let later = names_ascend names whole longer rest more (moved whole front (b ∷ letters) (after ++ rest) whole-at)
     (at_more (b ∷ letters) front line column (start_no_feed b is, letters_plain letters all) place-is) (subst (λ (n : ℕ). WordsAscend whole n more) end-is ascend)
     in
-    one_ascends whole front letters (after ++ rest) b line column (words ++ more) whole-at place-is (subst (λ (n : ℕ). WordsAscend whole n (words ++ more)) past-is behind)
+    one_ascends whole front letters (after ++ rest) b line column (words ++ more) whole-at place-is (subst (λ (n : ℕ). WordsAscend whole n (words ++ more)) past-is later)
 
 -- ---- the words of all lines
 
@@ -153,7 +153,7 @@ no_lines end is = refl
 no_lines (empty empty-is more) is = absurd cc
 no_lines (full row line-is more) is = absurd cc
 
--- the words of some rows ascend, where the rows stand behind a front of the bytes
+-- the words of rows that follow a front of the bytes ascend
 abbrev RowsAscend : ℕ → List (List ℕ) → List PlanLine → Type 0
 RowsAscend line rows lines = (whole front : List ℕ) → whole ≡ front ++ join_with_byte 10 rows → AllByRecursion OnOneLine rows → IsAt front line 1 → WordsAscend whole (length front) (words_of lines)
 
@@ -164,11 +164,11 @@ tail_ascends line row [] lines none-left rest whole front whole-is plain plains 
     let ends : length front + length row ≤ length whole = omega arith in
     subst (λ (all : List PlanLine). WordsAscend whole (length front + length row) (words_of all)) (sym (none-left refl)) ends
 tail_ascends line row (next ∷ rows) lines none-left rest whole front whole-is plain plains place-is =
-    let behind : List ℕ = (front ++ row) ++ 10 ∷ [] in
-    let whole-at : whole ≡ behind ++ join_with_byte 10 (next ∷ rows) = whole-is ∙ simp append_assoc in
-    let behind-at : IsAt behind (line + 1) 1 = at_next (front ++ row) line (1 + length row) (at_more row front line 1 plain place-is) in
-    let length-is : length behind ≡ (length front + length row) + 1 = length-append (front ++ row) (10 ∷ []) ∙ ap (λ (n : ℕ). n + 1) (length-append front row) in
-    words_lower whole (length front + length row) (length behind) (words_of lines) (omega arith) (rest whole behind whole-at plains behind-at)
+    let later : List ℕ = (front ++ row) ++ 10 ∷ [] in
+    let whole-at : whole ≡ later ++ join_with_byte 10 (next ∷ rows) = whole-is ∙ simp append_assoc in
+    let later-at : IsAt later (line + 1) 1 = at_next (front ++ row) line (1 + length row) (at_more row front line 1 plain place-is) in
+    let length-is : length later ≡ (length front + length row) + 1 = length-append (front ++ row) (10 ∷ []) ∙ ap (λ (n : ℕ). n + 1) (length-append front row) in
+    words_lower whole (length front + length row) (length later) (words_of lines) (omega arith) (rest whole later whole-at plains later-at)
 
 first_row : (row : List ℕ) (rows : List (List ℕ)) → (rest : List ℕ) × (join_with_byte 10 (row ∷ rows) ≡ row ++ rest)
 first_row row [] = ([], sym (append-nil row))

@@ -4,7 +4,7 @@ use Rattle.pddl_text.specs.declared.fault.TextFault.{TextFault}
 use Rattle.pddl_text.specs.declared.fault.ReadStop.{ReadStop}
 use Rattle.pddl_text.specs.declared.fault.ReadStop.TheVariants as stop
 
--- what holds of the fault, where one is answered
+-- what holds of the fault, if one is answered
 abbrev pub IfFault : {A : Type 0} → Result A ReadStop → (TextFault → Type 0) → Type 0
 IfFault (Ok value) holds = Unit {0}
 IfFault (Err (stop.Fault fault)) holds = holds fault

@@ -1,4 +1,4 @@
--- What the bytes of a text are to its words, and the bytes of a plan to its lines.
+-- The bytes that separate, begin and continue the words of a text and the names of a plan's lines.
 use Rattle.std.specs.Prelude.{ℕ, ◌≢◌, Bool, List, ◌==◌, ◌&&◌, ◌||◌, not, nat_le, nat_lt, IsTrue}
 use Rattle.std.specs.Prelude.{if◌then◌else◌}
 use Rattle.std.specs.List.{AllByRecursion}
@@ -14,7 +14,7 @@ is_white b = b == 32 || b == 9 || b == 13 || b == 10
 abbrev pub is_word_byte : ℕ → Bool
 is_word_byte b = nat_lt 32 b && nat_lt b 127 && not (b == 40 || b == 41 || b == 59)
 
--- none of white space, `;`, parentheses and word bytes
+-- neither white space, `;`, a parenthesis nor a word byte
 abbrev pub is_stray : ℕ → Bool
 is_stray b = not (is_white b || b == 59 || b == 40 || b == 41 || is_word_byte b)
 
@@ -22,7 +22,7 @@ is_stray b = not (is_white b || b == 59 || b == 40 || b == 41 || is_word_byte b)
 abbrev pub is_blank : ℕ → Bool
 is_blank b = b == 32 || b == 9 || b == 13
 
--- space and tab, which may stand inside a plan's line
+-- space and tab, which separate the names of a plan's line
 abbrev pub is_space : ℕ → Bool
 is_space b = b == 32 || b == 9
 
@@ -32,7 +32,7 @@ is_name_start b =
     nat_le 65 b && nat_le b 90 || nat_le 97 b && nat_le b 122 || nat_le 48 b && nat_le b 57
     || b == 95
 
--- what a byte begins where no word and no comment goes on
+-- what a byte begins outside words and comments
 abbrev pub kind : ℕ → ByteKind
 kind b =
     if is_white b then White
@@ -41,7 +41,7 @@ kind b =
     else (if b == 41 then Closing
     else (if is_word_byte b then Letter else Stray))))
 
--- the bytes stand on one line
+-- no byte is a line feed
 abbrev pub OnOneLine : List ℕ → Type 0
 OnOneLine bytes = AllByRecursion (λ b. b ≢ 10) bytes
 

@@ -5,6 +5,7 @@ pub mod Forests
 pub mod Places
 pub mod PlanReading
 pub mod Plans
+pub mod Printing
 pub mod Reading
 pub mod Spans
 pub mod Stops

@@ -1,13 +1,13 @@
--- Where the bytes of a text stand. Lines and columns count from 1, and positions from 0.
+-- The places of the bytes of a text. Lines and columns count from 1, and positions from 0.
 use Rattle.std.specs.Prelude.{ℕ, ◌+◌, List, [], ◌∷◌, ◌==◌, if◌then◌else◌}
 use Rattle.pddl_text.specs.declared.place.Place.{Place}
 use Rattle.pddl_text.specs.declared.place.Spot.{Spot}
 
--- where the first byte stands
+-- the spot of the first byte
 abbrev pub start : Spot
 start = record { place = record { line = 1; column = 1 }; position = 0 }
 
--- where the byte behind this one stands: a line feed ends a line, and a column counts bytes
+-- the spot after this byte: a line feed ends a line, and a column counts bytes
 abbrev pub after : Spot → ℕ → Spot
 after s b = record {
   place =
@@ -16,7 +16,7 @@ after s b = record {
   position = s.position + 1;
 }
 
--- where the byte behind all of these stands
+-- the spot after these bytes
 abbrev pub after_all : Spot → List ℕ → Spot
 after_all s [] = s
 after_all s (b ∷ bytes) = after_all (after s b) bytes

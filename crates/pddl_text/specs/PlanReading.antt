@@ -14,19 +14,19 @@ use Rattle.pddl_text.specs.Bytes.{is_blank, is_space, is_name_start, is_word_byt
 use Rattle.pddl_text.specs.Faults.{fault_at}
 use Rattle.pddl_text.specs.Plans.{Words, kept, rows_of}
 
--- what the bytes of a row so far end in; of a name, its letters so far and where it began
+-- the state after the bytes of a row so far; in a name, its letters so far and where it began
 pub data Row : Type 0 where
   Before : Row
   Inside : Row
   InName : List ℕ → Place → Row
   Closed : Row
 
--- the names so far of a row, and what its bytes so far end in
+-- the names of a row so far, and the state after its bytes so far
 pub record RowState : Type 0 where
   pub words : Words
   pub row : Row
 
--- a byte inside the parentheses where no name goes on
+-- a byte inside the parentheses and outside a name
 abbrev pub inside_step : Words → Place → ℕ → Option RowState
 inside_step words at b =
     if is_space b then Some (record { words = words; row = Inside })
@@ -35,7 +35,7 @@ inside_step words at b =
     Some (record { words = words; row = InName (to_ascii_lowercase b ∷ []) at })
     else None))
 
--- the next byte of a row, where some line of the form has it
+-- the state after the next byte of a row, if some line of the form has it there
 abbrev pub row_step : Row → Words → Place → ℕ → Option RowState
 row_step Before words at b =
     if is_blank b then Some (record { words = words; row = Before })
@@ -66,7 +66,7 @@ abbrev pub goes_on : Option RowState → Place → (RowState → Result PlanLine
 goes_on None at next = Err (fault_at at rule.Form)
 goes_on (Some state) at next = next state
 
--- what the rest of a row is read as, from a place on
+-- what the rest of a row is read as, from this place on
 abbrev pub row_from : RowState → Place → List ℕ → Result PlanLine TextFault
 row_from state at [] = row_end state.row state.words at
 row_from state at (b ∷ bytes) =
@@ -76,7 +76,7 @@ row_from state at (b ∷ bytes) =
 abbrev pub row_start : RowState
 row_start = record { words = []; row = Before }
 
--- what a whole row is read as, by what is kept of it
+-- what a whole row is read as, from its kept bytes
 abbrev pub line_of : ℕ → List ℕ → Result PlanLine TextFault
 line_of line bytes = row_from row_start (record { line = line; column = 1 }) bytes
 
@@ -86,13 +86,13 @@ abbrev pub adds : Result PlanLine TextFault → List PlanLine
 adds (Err fault) lines next = Err fault
 adds (Ok line) lines next = next (lines ++ line ∷ [])
 
--- the line of one row, by what is kept of it: an empty row has none
+-- one row, from its kept bytes: an empty row adds no line
 abbrev pub row_then : ℕ → List ℕ → List PlanLine
     → (List PlanLine → Result (List PlanLine) TextFault) → Result (List PlanLine) TextFault
 row_then line [] lines next = next lines
 row_then line (b ∷ bytes) lines next = adds (line_of line (b ∷ bytes)) lines next
 
--- the rows from a line on, behind the lines so far
+-- the rows from this line on, after the lines so far
 abbrev pub rows_from : List PlanLine → ℕ → List (List ℕ) → Result (List PlanLine) TextFault
 rows_from lines line [] = Ok lines
 rows_from lines line (row ∷ rows) =
@@ -102,7 +102,7 @@ rows_from lines line (row ∷ rows) =
 abbrev pub lines_of : List ℕ → Result (List PlanLine) TextFault
 lines_of bytes = rows_from [] 1 (rows_of bytes)
 
--- what a reader's bytes so far end in
+-- the state after a reader's bytes so far
 abbrev pub row_in : RowMode → List ℕ → Row
 row_in mode.Before letters = Before
 row_in mode.Inside letters = Inside

@@ -1,4 +1,4 @@
--- Which bytes spell which lines of a plan, and where bytes that spell none leave the form first.
+-- The lines that the bytes of a plan spell, or the first place where they leave the form.
 use Rattle.std.specs.Prelude.{ℕ, ◌+◌, ◌<◌, ◌≡◌, Bool, true, List, [], ◌∷◌, ◌++◌, length, ◌==◌, ◌&&◌}
 use Rattle.std.specs.Prelude.{◌||◌, IsTrue, if◌then◌else◌}
 use Rattle.std.specs.Bool.{IsFalse}
@@ -34,7 +34,7 @@ Words = List (Text × Place)
 -- from this column of a line on, the bytes are these names
 pub data AreNames : ℕ → ℕ → List ℕ → Words → Type 0 where
   none : {line column : ℕ} → AreNames line column [] []
-  -- spaces and tabs stand before, between and behind them
+  -- spaces and tabs may come before, between and after them
   space : {line column b : ℕ} {rest : List ℕ} {words : Words}
       → IsTrue (is_space b)
       → AreNames line (column + 1) rest words
@@ -46,7 +46,7 @@ pub data AreNames : ℕ → ℕ → List ℕ → Words → Type 0 where
       → AreNames line column (b ∷ letters ++ rest)
       ((str_to_ascii_lowercase (b ∷ letters), record { line = line; column = column }) ∷ words)
 
--- a line of the form: `(`, one name or more, and `)`, maybe with blanks before and behind
+-- a line of the form: `(`, one name or more, and `)`, maybe with blanks before and after
 pub record IsLine (line : ℕ) (bytes : List ℕ) (words : Words) : Type 0 where
   pub lead : List ℕ
   pub inside : List ℕ
@@ -79,37 +79,37 @@ SpellsPlan bytes lines = RowsSpell 1 (rows_of bytes) lines
 abbrev pub BeginsLine : ℕ → List ℕ → Type 0
 BeginsLine line bytes = (more : List ℕ) × (words : Words) × IsLine line (bytes ++ more) words
 
--- behind the bytes before, no line of the form has the next byte; at their end, they are no line
+-- after the bytes before, no line of the form has the next byte; at the end, they aren't a line
 abbrev pub IsStuck : ℕ → List ℕ → List ℕ → Type 0
 IsStuck line before [] = (words : Words) → ¬ IsLine line before words
 IsStuck line before (b ∷ rest) = ¬ BeginsLine line (before ++ b ∷ [])
 
--- the bytes leave the form at this column, behind bytes with which some line of the form begins
+-- the bytes leave the form at this column, after bytes with which some line of the form begins
 pub record LeavesForm (line : ℕ) (bytes : List ℕ) (column : ℕ) : Type 0 where
   pub before : List ℕ
   pub rest : List ℕ
   pub parts : bytes ≡ before ++ rest
-  pub behind : column ≡ length before + 1
+  pub at : column ≡ length before + 1
   pub goes_on : BeginsLine line before
   pub stuck : IsStuck line before rest
 
--- the rows from this line on leave the form, and here first
+-- the rows from this line on leave the form, and this is their first fault
 pub data RowsFail : ℕ → List (List ℕ) → TextFault → Type 0 where
   -- what is kept of a row leaves the form
   here : {line : ℕ} (row : List ℕ) {rows : List (List ℕ)} {column : ℕ}
       → IsFalse (is_empty_row row) → LeavesForm line (kept row) column
       → RowsFail line (row ∷ rows)
       (fault_at (record { line = line; column = column }) rule.Form)
-  -- each row before is empty or a line of the form
-  behind_empty : {line : ℕ} {row : List ℕ} {rows : List (List ℕ)} {fault : TextFault}
+  -- each earlier row is empty or a line of the form
+  after_empty : {line : ℕ} {row : List ℕ} {rows : List (List ℕ)} {fault : TextFault}
       → IsTrue (is_empty_row row)
       → RowsFail (line + 1) rows fault
       → RowsFail line (row ∷ rows) fault
-  behind_full : {line : ℕ} (row : List ℕ) {rows : List (List ℕ)} {words : Words} {fault : TextFault}
+  after_full : {line : ℕ} (row : List ℕ) {rows : List (List ℕ)} {words : Words} {fault : TextFault}
       → IsLine line (kept row) words
       → RowsFail (line + 1) rows fault
       → RowsFail line (row ∷ rows) fault
 
--- the bytes leave the form of a plan, and here first
+-- the bytes leave the form of a plan, and this is their first fault
 abbrev pub LeavesPlan : List ℕ → TextFault → Type 0
 LeavesPlan bytes fault = RowsFail 1 (rows_of bytes) fault

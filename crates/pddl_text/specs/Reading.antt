@@ -1,4 +1,4 @@
--- How a text is read, byte by byte: what is left to be read, as functions on lists.
+-- How a text is read byte by byte, as functions on lists.
 use Rattle.std.specs.Prelude.{ℕ, List, [], ◌∷◌, ◌++◌, length, reverse, ◌==◌, nat_lt, Result, Ok}
 use Rattle.std.specs.Prelude.{Err, if◌then◌else◌}
 use Rattle.std.specs.Char.{to_ascii_lowercase}
@@ -23,13 +23,13 @@ use Rattle.pddl_text.specs.Places.{start, after, past_of}
 use Rattle.pddl_text.specs.Tokens.{Token, Word, Open, Close, Stray}
 use Rattle.pddl_text.specs.Faults.{fault_at}
 
--- what the bytes so far end in; of a word, its text so far and where it began
+-- the state after the bytes so far; in a word, its text so far and where it began
 pub data Within : Type 0 where
   Nothing : Within
   Comment : Within
   InWord : List ℕ → Spot → Within
 
--- a byte where no word and no comment goes on, and then the tokens of the rest by what it ends in
+-- a byte outside words and comments, and then the tokens of the rest, from the state after it
 abbrev pub tokens_at : ByteKind → Spot → ℕ → (Within → List Token) → List Token
 tokens_at White s b next = next Nothing
 tokens_at Semicolon s b next = next Comment
@@ -38,13 +38,13 @@ tokens_at Closing s b next = Close s.place ∷ next Nothing
 tokens_at Letter s b next = next (InWord (to_ascii_lowercase b ∷ []) s)
 tokens_at StrayByte s b next = Stray s.place ∷ next Nothing
 
--- a byte behind a word, which goes on with a word byte alone
+-- a byte after the letters of a word, which only a word byte continues
 abbrev pub tokens_after : List ℕ → Spot → ℕ → Spot → (Within → List Token) → List Token
 tokens_after text from b s next =
     if is_word_byte b then next (InWord (text ++ to_ascii_lowercase b ∷ []) from)
     else Word text from.place from.position s.position ∷ tokens_at (kind b) s b next
 
--- the tokens of the bytes from a spot on
+-- the tokens of the bytes from this spot on
 abbrev pub tokens_from : Within → Spot → List ℕ → List Token
 tokens_from (InWord text from) s [] = Word text from.place from.position s.position ∷ []
 tokens_from within s [] = []
@@ -55,7 +55,7 @@ tokens_from Comment s (b ∷ bytes) =
 tokens_from (InWord text from) s (b ∷ bytes) =
     tokens_after text from b s (λ next. tokens_from next (after s b) bytes)
 
--- the trees of the tokens behind open lists, the innermost first, and the trees so far of that one
+-- the trees of tokens that follow these open lists (the innermost first) and its trees so far
 abbrev pub trees_from : List Frame → List Tree → Place → List Token → Result (List Tree) TextFault
 trees_from [] trees end [] = Ok trees
 trees_from (frame ∷ frames) trees end [] = Err (fault_at end rule.Open)
@@ -70,23 +70,23 @@ trees_from (frame ∷ frames) trees end (Close at ∷ tokens) =
     trees_from frames (frame.before ++ tree.Items trees frame.at at ∷ []) end tokens
 trees_from frames trees end (Stray at ∷ tokens) = Err (fault_at at rule.Byte)
 
--- what is read behind the lists of a grove
+-- what is read after the open lists of a grove
 abbrev pub reads : Grove → Place → List Token → Result (List Tree) TextFault
 reads grove end tokens = trees_from (reverse grove.frames.items) grove.trees end tokens
 
--- what a reader's bytes so far end in
+-- the state after a reader's bytes so far
 abbrev pub within_of : Mode → List ℕ → Within
 within_of mode.Between letters = Nothing
 within_of mode.Comment letters = Comment
 within_of (mode.InWord from) letters = InWord letters from
 
--- what a reader has still to read
+-- what a reader makes of the rest of its text
 abbrev pub left : Reader → Place → Spot → List ℕ → Result (List Tree) TextFault
 left reader end s bytes =
-    reads reader.grove end (tokens_from (within_of reader.mode (string_bytes reader.letters)) s
-    bytes)
+    reads reader.grove end
+    (tokens_from (within_of reader.mode (string_bytes reader.letters)) s bytes)
 
--- the forest of these trees, where the text ends at this place
+-- the forest of these trees, in a text that ends at this place
 abbrev pub with_past : Place → Result (List Tree) TextFault → Result Forest TextFault
 with_past past (Ok trees) = Ok (record { trees = trees; past = past })
 with_past past (Err fault) = Err fault

@@ -1,4 +1,4 @@
--- Where the words of a text stand in its bytes. Positions count from 0.
+-- Where the words of a text are in its bytes. Positions count from 0.
 use Rattle.std.specs.Prelude.{ℕ, ◌+◌, ◌<◌, ◌≤◌, ◌≡◌, List, [], ◌∷◌, length, take, slice_range}
 use Rattle.std.specs.List.{flat_map}
 use Rattle.std.specs.Str.{str_to_ascii_lowercase}
@@ -9,18 +9,18 @@ use Rattle.pddl_text.specs.Places.{past_of}
 use Rattle.pddl_text.specs.Tokens.{Token, Word, Open, Close, Stray}
 
 -- the word is the lower case of the bytes at its positions, and has the place of the first of them
-pub record StandsAt (bytes text : List ℕ) (at : Place) (first past : ℕ) : Type 0 where
+pub record IsWordAt (bytes text : List ℕ) (at : Place) (first past : ℕ) : Type 0 where
   pub letters : text ≡ str_to_ascii_lowercase (slice_range bytes first past)
   pub place : at ≡ past_of (take first bytes)
 
--- a word stands in the bytes where it says
-abbrev pub StandsIn : List ℕ → Token → Type 0
-StandsIn bytes (Word text at first past) = StandsAt bytes text at first past
-StandsIn bytes (Open at) = Unit {0}
-StandsIn bytes (Close at) = Unit {0}
-StandsIn bytes (Stray at) = Unit {0}
+-- a word is in the bytes where its token says
+abbrev pub IsTokenIn : List ℕ → Token → Type 0
+IsTokenIn bytes (Word text at first past) = IsWordAt bytes text at first past
+IsTokenIn bytes (Open at) = Unit {0}
+IsTokenIn bytes (Close at) = Unit {0}
+IsTokenIn bytes (Stray at) = Unit {0}
 
--- each token takes a byte or more between these positions, behind the tokens before it
+-- each token takes at least one byte between these positions, after the tokens before it
 abbrev pub SpansAscend : ℕ → ℕ → List Token → Type 0
 SpansAscend from to [] = from ≤ to
 SpansAscend from to (Word text at first past ∷ tokens) =
@@ -29,13 +29,13 @@ SpansAscend from to (Open at ∷ tokens) = SpansAscend (from + 1) to tokens
 SpansAscend from to (Close at ∷ tokens) = SpansAscend (from + 1) to tokens
 SpansAscend from to (Stray at ∷ tokens) = SpansAscend (from + 1) to tokens
 
--- each word is the lower case of a slice of the bytes, from this position on and behind the word
--- before
+-- each word is the lower case of a slice of the bytes; the slices start at this position or later,
+-- in order
 abbrev pub WordsAscend : List ℕ → ℕ → List (Text × Place) → Type 0
 WordsAscend bytes from [] = from ≤ length bytes
 WordsAscend bytes from ((text, at) ∷ words) =
     (first : ℕ) × (from ≤ first) × (0 < length text)
-    × StandsAt bytes text at first (first + length text)
+    × IsWordAt bytes text at first (first + length text)
     × WordsAscend bytes (first + length text) words
 
 -- the words of all lines of a plan, in their order

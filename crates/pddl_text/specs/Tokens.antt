@@ -1,5 +1,5 @@
--- What a text says: its words and parentheses in their order. White space and comments say nothing,
--- a word is a longest run of word bytes, and it is kept in lower case.
+-- The tokens of a text: its words and parentheses in order. White space and comments have none; a
+-- word is a longest run of word bytes, and is kept in lower case.
 use Rattle.std.specs.Prelude.{ℕ, ◌+◌, ◌≡◌, List, [], ◌∷◌, ◌++◌, length, IsTrue}
 use Rattle.std.specs.Bool.{IsFalse}
 use Rattle.std.specs.Str.{str_to_ascii_lowercase}
@@ -13,10 +13,10 @@ pub data Token : Type 0 where
   Word : List ℕ → Place → ℕ → ℕ → Token
   Open : Place → Token
   Close : Place → Token
-  -- a byte that has no place in a text
+  -- a byte that no text may have
   Stray : Place → Token
 
--- no word goes on here
+-- no word continues here
 abbrev pub EndsWord : List ℕ → Type 0
 EndsWord [] = Unit {0}
 EndsWord (b ∷ bytes) = IsFalse (is_word_byte b)
@@ -28,14 +28,14 @@ EndsLine (b ∷ bytes) = b ≡ 10
 
 -- the bytes from a spot on have these tokens
 pub data HasTokens : Spot → List ℕ → List Token → Type 0 where
-  -- where the text ends, nothing is left to say
+  -- at the end of a text there are no more tokens
   end : {s : Spot} → HasTokens s [] []
-  -- white space says nothing
+  -- white space has no token
   white : {s : Spot} {b : ℕ} {rest : List ℕ} {tokens : List Token}
       → IsTrue (is_white b)
       → HasTokens (after s b) rest tokens
       → HasTokens s (b ∷ rest) tokens
-  -- a comment says nothing, from its `;` to the end of its line
+  -- a comment, from its `;` to the end of its line, has no token
   comment : {s : Spot} (inside rest : List ℕ) {tokens : List Token}
       → OnOneLine inside → EndsLine rest
       → HasTokens (after_all s (59 ∷ inside)) rest tokens

@@ -1,8 +1,9 @@
+//! The bytes that separate, begin and continue words.
 ghost use Rattle.std.specs.Prelude.{◌≡◌};
 ghost use Rattle.std.specs.Char.{to_ascii_lowercase};
 ghost use Rattle.pddl_text.specs.Bytes.{is_blank, is_name_start, is_space, is_word_byte, kind};
 
-/// What a byte begins where no word and no comment goes on.
+/// What a byte begins outside words and comments.
 #[derive(Clone, Copy)]
 pub enum ByteKind {
     White,
@@ -38,7 +39,7 @@ pub fn kind_of(byte: u8) -> ByteKind
     }
 }
 
-/// The letter of a word that a byte stands for, in lower case.
+/// A byte of a word as a letter, in lower case.
 pub fn letter_of(byte: u8) -> char
     ensures { result ≡ to_ascii_lowercase byte }
 {
@@ -52,7 +53,7 @@ pub fn is_blank(byte: u8) -> bool
     byte == b' ' || byte == b'\t' || byte == b'\r'
 }
 
-/// Whether a byte may stand between the names of a plan's line.
+/// Whether a byte separates the names of a plan's line.
 pub fn is_space(byte: u8) -> bool
     ensures { result ≡ is_space byte }
 {

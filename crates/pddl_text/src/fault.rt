@@ -1,5 +1,6 @@
+//! The rules that a text can break, and how a reading stops.
 ghost use Rattle.std.specs.Prelude.{◌≡◌};
-ghost use Rattle.pddl_text.specs.Stops.{Tells};
+ghost use Rattle.pddl_text.specs.Stops.{IsAnswered};
 ghost use Rattle.pddl_text.specs.declared.fault.ReadStop.TheVariants.{NoMemory as Refused};
 ghost use Rattle.pddl_text.specs.declared.fault.Stop.TheVariants.{NoMemory as Stopped};
 
@@ -11,19 +12,19 @@ use std::alloc::{AllocError, AllocFailed, Global};
 /// in any text, and `Form` in a plan.
 #[derive(Clone, Copy, Debug, PartialEq, Eq)]
 pub enum TextRule {
-    /// A byte outside a comment is no white space, no parenthesis, no `;` and no word byte.
+    /// A byte outside comments is neither white space, a parenthesis, `;` nor a word byte.
     Byte,
-    /// A `)` stands where no list is open.
+    /// A `)` where no list is open.
     Close,
     /// A `(` opens a list inside 64 open lists.
     Deep,
     /// The text ends with a list open.
     Open,
-    /// A token stands where no text of the grammar has it.
+    /// A token that no text of the grammar has here.
     Form,
     /// A form of PDDL that is out of scope.
     Unsupported,
-    /// A word stands where a whole number is due.
+    /// A word where a whole number is due.
     NotWhole,
     /// A reserved word is declared.
     Reserved,
@@ -39,7 +40,7 @@ pub enum TextRule {
     WrongType,
 }
 
-/// Where a text breaks a rule, and the word there. The word is empty where the rule prints none.
+/// Where a text breaks a rule, and the word there. The word is empty if the rule prints none.
 #[derive(Debug, Drop)]
 pub struct TextFault {
     pub at: Place,
@@ -78,7 +79,7 @@ impl<T: Drop> From<AllocFailed<T>> for ReadStop {
     }
 }
 
-/// Why a text is read no further: the rule that it breaks and where, or want of memory.
+/// Why a reading stops: a rule is broken, and where, or memory ran out.
 #[derive(Clone, Copy)]
 pub enum Stop {
     Fault { at: Place, rule: TextRule },
@@ -110,9 +111,9 @@ impl<T: Drop> From<AllocFailed<T>> for Stop {
 }
 
 impl Stop {
-    /// What a reader answers.
-    pub fn told(self, alloc: Global) -> ReadStop
-        ensures { Tells self result }
+    /// What a reader answers when its reading stops this way.
+    pub fn answer(self, alloc: Global) -> ReadStop
+        ensures { IsAnswered self result }
     {
         match self {
             Stop::Fault { at, rule } => match Text::of(alloc, "") {

@@ -1,3 +1,4 @@
+//! The open lists of a text that is being read.
 ghost use Rattle.std.specs.Prelude.{◌≡◌, ℕ, List as ListOf, ◌∷◌, OnOk, Err};
 ghost use Rattle.pddl_text.specs.Reading.{reads};
 ghost use Rattle.pddl_text.specs.Stops.{IfStopped};
@@ -10,16 +11,15 @@ use mre_base::{List, NoMemory, Text};
 use std::alloc::Global;
 use std::mem;
 
-/// A list that is open: where its `(` stands, and the trees before it in the list around it.
+/// An open list: the place of its `(`, and the trees before it in the list around it.
 #[derive(Drop)]
 pub struct Frame {
     pub at: Place,
     pub before: List<Tree>,
 }
 
-/// The lists that are open, the innermost last, and the trees so far of the innermost or, where
-/// none
-/// is open, of the text.
+/// The open lists, the innermost last, and the trees so far of the innermost, or of the text if no
+/// list is open.
 #[derive(Drop)]
 pub struct Grove {
     pub frames: Vec<Frame>,

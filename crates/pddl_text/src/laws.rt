@@ -1,3 +1,4 @@
+//! Laws of the readings: each text has exactly one.
 ghost use Rattle.std.specs.Prelude.{◌≡◌, ◌⊎◌, ℕ, List};
 ghost use Rattle.pddl_text.specs.Forests.{Spells, IsFirstFault};
 ghost use Rattle.pddl_text.specs.Plans.{SpellsPlan, LeavesPlan};

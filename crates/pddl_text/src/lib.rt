@@ -7,6 +7,7 @@ mod grove;
 mod laws;
 mod place;
 mod plan;
+mod printing;
 mod reading;
 mod tree;
 

@@ -1,6 +1,7 @@
+//! Places in a text.
 ghost use Rattle.std.specs.Prelude.{◌≡◌, ◌+◌, ◌^◌, ◌<◌};
 
-/// Where a byte stands in a text. Lines and columns count from 1. A line feed ends a line, and a
+/// The place of a byte in a text. Lines and columns count from 1. A line feed ends a line, and a
 /// column counts bytes.
 #[derive(Clone, Copy, Debug, PartialEq, Eq)]
 pub struct Place {
@@ -8,7 +9,7 @@ pub struct Place {
     pub column: u32,
 }
 
-/// Where the next byte of a text stands, and how many bytes are before it.
+/// The place of the next byte of a text, and the number of bytes before it.
 #[derive(Clone, Copy)]
 pub struct Spot {
     pub place: Place,
@@ -18,7 +19,7 @@ pub struct Spot {
 impl Spot {
     ghost use Rattle.pddl_text.specs.Places.{start, after};
 
-    /// Where the first byte stands.
+    /// The spot of the first byte.
     pub fn start() -> Spot
         ensures { result ≡ start }
     {
@@ -28,7 +29,7 @@ impl Spot {
         }
     }
 
-    /// Where the byte behind this one stands.
+    /// The spot after this byte.
     pub fn after(self, byte: u8) -> Spot
         requires line { self.place.line + 1 < 2 ^ 32 }
         requires column { self.place.column + 1 < 2 ^ 32 }

@@ -1,3 +1,4 @@
+//! Reads the bytes of a plan into lines of names.
 ghost use Rattle.std.specs.Prelude.{◌≡◌, ◌+◌, ◌^◌, ◌<◌, ◌≤◌, ◌∷◌, ◌++◌, [], length, All, IfOk};
 ghost use Rattle.std.specs.Prelude.{OnOk, Some, None, Err, ℕ, List as ListOf};
 ghost use Rattle.std.specs.String.{string_bytes};
@@ -24,7 +25,7 @@ pub struct PlanLine {
     pub words: List<(Text, Place)>,
 }
 
-/// What the bytes of a row so far end in.
+/// The state after the bytes of a row so far.
 #[derive(Clone, Copy)]
 pub enum RowMode {
     Before,
@@ -33,8 +34,8 @@ pub enum RowMode {
     Closed,
 }
 
-/// A row of a plan that is being read: what its bytes so far end in, the letters so far of that
-/// name, and the names before it.
+/// A row of a plan that is being read: the state after its bytes so far, the letters so far of its
+/// last name, and the names before it.
 #[derive(Drop)]
 pub struct RowReader {
     pub mode: RowMode,
@@ -42,7 +43,7 @@ pub struct RowReader {
     pub words: List<(Text, Place)>,
 }
 
-/// At this place no line of the form goes on.
+/// The row leaves the form at this place.
 fn no_form(at: Place) -> Stop
     ensures { result ≡ Stop.Fault at TextRule.Form }
 {
@@ -53,7 +54,7 @@ fn no_form(at: Place) -> Stop
 }
 
 impl RowReader {
-    /// Takes a byte inside the parentheses where no name goes on.
+    /// Takes a byte inside the parentheses and outside a name.
     fn inside(&mut self, at: Place, byte: u8) -> Result<(), Stop>
         requires { self.old.mode ≡ RowMode.Inside }
         ensures ok { OnOk result (inside_step self.old.words at byte ≡ Some (state_of self.new)) }
@@ -145,7 +146,7 @@ fn kept(row: &[u8]) -> &[u8]
     &row[..end]
 }
 
-/// The line that the kept bytes of a row are.
+/// The line of a row, from its kept bytes.
 fn read_row(alloc: Global, line: u32, row: &[u8]) -> Result<PlanLine, Stop>
     requires short { length row.now < 2 ^ 28 }
     ensures { Finds result (line_of line row.now) }
@@ -163,7 +164,7 @@ fn read_row(alloc: Global, line: u32, row: &[u8]) -> Result<PlanLine, Stop>
     reader.end(at)
 }
 
-/// Takes the next row of a plan, which stands on this line.
+/// Takes the next row of a plan, the one on this line.
 fn take_row(alloc: Global, lines: &mut List<PlanLine>, line: u32, row: &[u8]) -> Result<(), Stop>
     requires short { length row.now < 2 ^ 28 }
     ensures ok { OnOk result ((rows : ListOf (ListOf ℕ)) →
@@ -205,14 +206,14 @@ fn read_rows(alloc: Global, bytes: &[u8]) -> Result<List<PlanLine>, Stop>
     }
 }
 
-/// What the bytes of a whole plan are read as, as a reader answers it.
-fn read_told(alloc: Global, bytes: &[u8]) -> Result<List<PlanLine>, ReadStop>
+/// The answer for the bytes of a whole plan.
+fn answer(alloc: Global, bytes: &[u8]) -> Result<List<PlanLine>, ReadStop>
     requires short { length bytes.now < 2 ^ 28 }
     ensures { Gives result (lines_of bytes.now) }
 {
     match read_rows(alloc, bytes) {
         Ok(lines) => Ok(lines),
-        Err(stop) => Err(stop.told(alloc)),
+        Err(stop) => Err(stop.answer(alloc)),
     }
 }
 
@@ -220,11 +221,12 @@ fn read_told(alloc: Global, bytes: &[u8]) -> Result<List<PlanLine>, ReadStop>
 pub fn read_plan_lines(alloc: Global, bytes: &[u8]) -> Result<List<PlanLine>, ReadStop>
     requires short { length bytes.now < 2 ^ 28 }
 
-    // What is answered is what the bytes spell, and where they first leave the form.
+    // The answer is the lines that the bytes spell, or where they first leave the form.
     ensures ok { IfOk result (λ lines. SpellsPlan bytes.now lines) }
     ensures fault { IfFault result (λ fault. LeavesPlan bytes.now fault) }
 
-    // What the bytes spell is answered, and so is where they first leave the form.
+    // The lines that the bytes spell are the answer, and so is the place where they first leave the
+    // form.
     ensures succeeds { (lines : ListOf plan.PlanLine) → SpellsPlan bytes.now lines →
         AnswersOk result lines }
     ensures refuses { (fault : faults.TextFault) → LeavesPlan bytes.now fault →
@@ -233,10 +235,10 @@ pub fn read_plan_lines(alloc: Global, bytes: &[u8]) -> Result<List<PlanLine>, Re
     // Each word is the lower case of its slice of the bytes, and the slices ascend.
     ensures words { IfOk result (λ lines. WordsAscend bytes.now 0 (words_of lines)) }
 
-    // Each line has a word, the action's name, and the lines and words are no more than the bytes.
+    // Each line has a word, the action's name, and there are no more lines and words than bytes.
     ensures named { IfOk result (λ lines. All (λ line. 0 < length line.words) lines) }
     ensures few { IfOk result (λ lines.
         length lines + length (words_of lines) ≤ length bytes.now) }
 {
-    read_told(alloc, bytes)
+    answer(alloc, bytes)
 }

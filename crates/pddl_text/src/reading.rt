@@ -1,3 +1,4 @@
+//! Reads the bytes of a text into words and lists.
 ghost use Rattle.std.specs.Prelude.{◌≡◌, ◌+◌, ◌^◌, ◌<◌, ◌≤◌, ℕ, List as ListOf, ◌∷◌, [], length};
 ghost use Rattle.std.specs.Prelude.{IfOk, OnOk, Err};
 ghost use Rattle.std.specs.String.{string_bytes};
@@ -6,7 +7,7 @@ ghost use Rattle.pddl_text.specs.Answers.{IfFault, AnswersOk, AnswersFault, Give
 ghost use Rattle.pddl_text.specs.Forests.{Spells, IsFirstFault, tokens_of_all};
 ghost use Rattle.pddl_text.specs.Places.{after};
 ghost use Rattle.pddl_text.specs.Reading.{left, reads, with_past, forest_of};
-ghost use Rattle.pddl_text.specs.Spans.{StandsIn, SpansAscend};
+ghost use Rattle.pddl_text.specs.Spans.{IsTokenIn, SpansAscend};
 ghost use Rattle.pddl_text.specs.Stops.{IfStopped, Finds};
 ghost use Rattle.pddl_text.specs.Tokens.{EndsWord};
 ghost use Rattle.pddl_text.specs.declared.fault.TextFault as faults;
@@ -21,7 +22,7 @@ use crate::{Forest, Place, ReadStop, TextRule};
 use mre_base::{List, NoMemory, Text};
 use std::alloc::Global;
 
-/// What the bytes so far end in.
+/// The state after the bytes so far.
 #[derive(Clone, Copy)]
 pub enum Mode {
     Between,
@@ -29,8 +30,8 @@ pub enum Mode {
     InWord { from: Spot },
 }
 
-/// A text that is being read: its lists and trees so far, what its bytes so far end in, and the
-/// letters so far of that word.
+/// A text that is being read: its open lists and trees so far, the state after its bytes so far,
+/// and the letters so far of its last word.
 #[derive(Drop)]
 pub struct Reader {
     pub grove: Grove,
@@ -39,7 +40,7 @@ pub struct Reader {
 }
 
 impl Reader {
-    /// Takes a byte where no word and no comment goes on.
+    /// Takes a byte outside words and comments.
     fn begin(&mut self, alloc: Global, spot: Spot, byte: u8) -> Result<(), Stop>
         requires { self.old.mode ≡ Mode.Between }
         ensures ok { OnOk result ((end : place.Place) (bytes : ListOf ℕ) →
@@ -108,7 +109,7 @@ impl Reader {
         }
     }
 
-    /// The forest, once no word goes on and the bytes have ended.
+    /// The forest, once the bytes have ended outside a word.
     fn finish(self, past: Place) -> Result<Forest, Stop>
         ensures { Finds result (with_past past (reads self.grove past [])) }
     {
@@ -162,14 +163,14 @@ fn read_whole(alloc: Global, bytes: &[u8]) -> Result<Forest, Stop>
     reader.end(alloc, spot)
 }
 
-/// What a whole text is read as, as a reader answers it.
-fn read_told(alloc: Global, bytes: &[u8]) -> Result<Forest, ReadStop>
+/// The answer for a whole text.
+fn answer(alloc: Global, bytes: &[u8]) -> Result<Forest, ReadStop>
     requires short { length bytes.now < 2 ^ 28 }
     ensures { Gives result (forest_of bytes.now) }
 {
     match read_whole(alloc, bytes) {
         Ok(forest) => Ok(forest),
-        Err(stop) => Err(stop.told(alloc)),
+        Err(stop) => Err(stop.answer(alloc)),
     }
 }
 
@@ -178,11 +179,11 @@ fn read_told(alloc: Global, bytes: &[u8]) -> Result<Forest, ReadStop>
 pub fn read_forest(alloc: Global, bytes: &[u8]) -> Result<Forest, ReadStop>
     requires short { length bytes.now < 2 ^ 28 }
 
-    // What is answered is what the bytes spell, and where they first break a rule.
+    // The answer is the forest that the bytes spell, or their first fault.
     ensures ok { IfOk result (λ forest. Spells bytes.now forest) }
     ensures fault { IfFault result (λ fault. IsFirstFault bytes.now fault) }
 
-    // What the bytes spell is answered, and so is their first fault.
+    // The forest that the bytes spell is the answer, and so is their first fault.
     ensures succeeds { (forest : tree.Forest) → Spells bytes.now forest →
         AnswersOk result forest }
     ensures refuses { (fault : faults.TextFault) → IsFirstFault bytes.now fault →
@@ -190,11 +191,11 @@ pub fn read_forest(alloc: Global, bytes: &[u8]) -> Result<Forest, ReadStop>
 
     // Each word is the lower case of its slice of the bytes, and the slices ascend.
     ensures words { IfOk result (λ forest.
-        AllByRecursion (StandsIn bytes.now) (tokens_of_all forest.trees)) }
+        AllByRecursion (IsTokenIn bytes.now) (tokens_of_all forest.trees)) }
     ensures spans { IfOk result (λ forest.
         SpansAscend 0 (length bytes.now) (tokens_of_all forest.trees)) }
     ensures few { IfOk result (λ forest.
         length (tokens_of_all forest.trees) ≤ length bytes.now) }
 {
-    read_told(alloc, bytes)
+    answer(alloc, bytes)
 }

@@ -1,18 +1,19 @@
+//! The words and lists of a text.
 use crate::Place;
 use mre_base::{List, Text};
 
-/// A word or a list of a text, with where it stands.
+/// A word or a list of a text, with its place.
 #[derive(Debug, Drop)]
 pub enum Tree {
-    /// A longest run of word bytes, in ASCII lower case. It stands at the bytes from position
-    /// `first` on and before `past`.
+    /// A longest run of word bytes, in ASCII lower case. Its bytes have the positions from `first`
+    /// on and before `past`.
     Word {
         text: Text,
         at: Place,
         first: u32,
         past: u32,
     },
-    /// What stands between a `(` and its `)`, with the places of both.
+    /// The trees between a `(` and its `)`, with the places of both.
     Items {
         list: List<Tree>,
         at: Place,

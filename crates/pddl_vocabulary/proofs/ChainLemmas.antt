@@ -15,6 +15,7 @@ use Rattle.mre_base.specs.declared.text.Text.{Text}
 use Rattle.model_kit.specs.Types.{parent, ancestor as number_up, is_of_type}
 use Rattle.model_kit.proofs.Alike.{same_numbers-decides}
 use Rattle.mre_base.proofs.Loops.{drop_item}
+use Rattle.mre_base.proofs.Listed.{item_at}
 use Rattle.model_kit.proofs.TypeLemmas.{any_below, from_steps_up}
 use Rattle.pddl_text.specs.declared.fault.TextRule.TheVariants as rule
 use Rattle.pddl_text.specs.declared.place.Place.{Place}
@@ -33,7 +34,6 @@ use Rattle.pddl_vocabulary.proofs.GatherLemmas.{position_within}
 use Rattle.pddl_names.proofs.NumberLemmas.{named_entry, number_is}
 use Rattle.pddl_vocabulary.proofs.PigeonLemmas.{meeting}
 use Rattle.pddl_names.proofs.PlaceLemmas.{first_type}
-use Rattle.pddl_names.proofs.ScanLemmas.{item_at}
 
 -- ---- the first place of a name
 

@@ -4,6 +4,7 @@ use Rattle.std.specs.Prelude.{not, filter, codes}
 use Rattle.std.specs.Str.{bytes_eq}
 use Rattle.std.proofs.lemmas.List.{length-map}
 use Rattle.mre_base.specs.declared.text.Text.{Text}
+use Rattle.mre_base.proofs.Listed.{filter_few}
 use Rattle.model_kit.specs.declared.vocabulary.Signature.{Signature}
 use Rattle.pddl_names.specs.declared.role.Role.{Role}
 use Rattle.pddl_names.specs.declared.role.Role.TheVariants as role
@@ -14,14 +15,6 @@ use Rattle.pddl_vocabulary.specs.VocabularyFirsts.{is_no_entry}
 use Rattle.pddl_vocabulary.proofs.ObjectLemmas.{objects_listed_few}
 
 -- ---- lists
-
-filter_few : {X : Type 0} (p : X → Bool) (xs : List X) → length (filter p xs) ≤ length xs
-filter_few p [] = omega arith
-filter_few p (x ∷ xs) = by (p x) (filter_few p xs)
-  where
-    by : (b : Bool) → length (filter p xs) ≤ length xs → length (cond b (x ∷ filter p xs) (filter p xs)) ≤ length (x ∷ xs)
-    by true more = omega arith
-    by false more = omega arith
 
 pub firsts_few : {X : Type 0} (same : X → X → Bool) (xs : List X) → length (firsts same xs) ≤ length xs
 firsts_few same [] = omega arith

@@ -160,31 +160,3 @@ are_formed start bytes forest met spells form =
     All-from_recursion IsFormed (words_of met)
     (words_formed met (form_taken start (tokens_of_all forest.trees) met form)
     (subst (AllByRecursion IsLower) (sym (form_words start (tokens_of_all forest.trees) met form)) (tokens_lower spells.tokens)))
-
--- ---- a test of words
-
-implied : (a b : Bool) → (not a || b) ≡ true → a ≡ true → b ≡ true
-implied true b e is = e
-implied false b e is = absurd (true≢false (sym is))
-
-abbrev is_numeral : Role → Bool
-is_numeral role.Numeral = true
-is_numeral _ = false
-
--- the word is what its role asks for
-abbrev pub is_formed : Word → Bool
-is_formed w = (not (is_naming w.role) || is_name w.text) && (not (is_numeral w.role) || is_some (number w.text))
-
-pub formed_by_test : (words : List Word) → list_all is_formed words ≡ true → AreFormed words
-formed_by_test words all = All-from_recursion IsFormed words (each words all)
-  where
-    one : (w : Word) → is_formed w ≡ true → IsFormed w
-    one w is =
-        let both = and_parts (not (is_naming w.role) || is_name w.text) (not (is_numeral w.role) || is_some (number w.text)) is in record {
-          name = λ names. implied (is_naming w.role) (is_name w.text) both.0 names;
-          numeral = λ numeral. implied (is_numeral w.role) (is_some (number w.text)) both.1 (ap is_numeral numeral);
-        }
-
-    each : (ws : List Word) → list_all is_formed ws ≡ true → AllByRecursion IsFormed ws
-    each [] e = tt
-    each (w ∷ ws) e = let both = and_parts (is_formed w) (list_all is_formed ws) e in (one w both.0, each ws both.1)

@@ -23,7 +23,7 @@ use Rattle.plain_program.specs.Numbered.{actions_of, numbers_of, IsNumbered}
 use Rattle.plain_program.specs.Kept.{OfTask, IsPriced}
 use Rattle.plain_program.proofs.RunLemmas.{valid_to, cost_same, named_again, numbers_listed, listed_fits, valid_listed, none_cheaper}
 
--- the numbers of a plan are listed, and as many as the plan has steps
+-- each number of a plan is that of an action
 pub plan_listed : (words : Vocabulary) (plan : List GroundAction) (list : List ℕ) (n : ℕ) → All (IsGroundAction words) plan → list ≡ numbers_of plan → n ≡ length words.actions → All (λ k. k < n) list
 plan_listed words plan list n fits is count =
     subst (λ m. All (λ k. k < m) list) (sym count) (subst (All (λ k. k < length words.actions)) (sym is) (numbers_listed words plan fits))
@@ -56,11 +56,7 @@ module _ (words : Vocabulary) (plain : is_plain words ≡ true) (model : Meaning
     less = omega (arith, costs, found.1, price, cost_same model task is list, ap (cost model) again);
   }
 
--- ---- what may be there, in a weaker form
-
-pub ok_weaker : {T E : Type 0} (r : Result T E) (P Q : T → Type 0) → ((t : T) → P t → Q t) → IfOk r P → IfOk r Q
-ok_weaker (Ok t) P Q gives holds = gives t holds
-ok_weaker (Err e) P Q gives holds = holds
+-- ---- weaker facts of optional values
 
 pub some_weaker : {T : Type 0} (P Q : T → Type 0) → ((t : T) → P t → Q t) → (o : Option T) → IfSome o P → IfSome o Q
 some_weaker P Q gives None holds = holds

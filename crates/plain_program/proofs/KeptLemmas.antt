@@ -1,4 +1,4 @@
--- The best complete set so far, and one set more.
+-- The best complete set so far, and one more set.
 use Rattle.std.proofs.Common.{◌≡◌, ℕ, ◌+◌, ◌≤◌, ◌<◌, Bool, true, false, List, length, take, replicate, Some, refl, sym, ap, ◌∙◌, subst, arith, ⊎_elim, inl, inr}
 use Rattle.std.specs.Prelude.{◌⊎◌, slice_get}
 use Rattle.std.specs.Ordering.{nat_cmp}
@@ -32,7 +32,7 @@ module _ (planner user : Model) (differences : List Difference) (plan : List Gro
   abbrev pub d : ℕ
   d = length differences
 
-  -- the set is complete with the cost, and is before each other complete set of the first ones, unless it is that set
+  -- the set is complete with the cost, and equals or precedes each complete set among the first ones
   pub record IsBest (done : ℕ) (best : FirstComplete) : Type 0 where
     pub within : Within d best.told
     pub complete : IsComplete task best.told
@@ -107,7 +107,7 @@ module _ (planner user : Model) (differences : List Difference) (plan : List Gro
     costs = is.costs;
   }
 
-  -- the order by 256 ones is that of the task
+  -- the order by 256 weights of 1 is the task's order
   pub narrowed : AreDifferencesOf planner user differences → (weights : List ℕ) → weights ≡ replicate 256 1 → (one two : set.FinSet nat_cmp) → IsToldOf planner user one → IsToldOf planner user two
       → (answer : Bool) → ((n : ℕ) → n ≤ 256 → Within n one → Within n two → answer ≡ is_before (take n weights) one two) → answer ≡ is_before task.weights one two
   narrowed all weights ones one two first second answer narrow =

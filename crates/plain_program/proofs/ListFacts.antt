@@ -1,4 +1,4 @@
--- Lists of numbers as sets, and lists of what is without objects.
+-- Lists of numbers as sets, and lists that grow by an item.
 use Rattle.std.proofs.Common.{◌≡◌, ℕ, ◌+◌, ◌<◌, true, List, [], ◌∷◌, ◌++◌, length, map, take, Some, Option, sym, ap, ◌∙◌, subst, arith, ⊎_elim}
 use Rattle.std.specs.Prelude.{Contains, slice_get}
 use Rattle.std.specs.Cmp.{nat_cmp_total}
@@ -21,14 +21,14 @@ from_set xs x there =
     let at = in_list xs x there in
     (at.0, at.1, get_or_default xs at.0 x 0 at.1 ∙ at.2)
 
--- the set of the images of one item more
+-- the set of the images of one more item
 pub set_more : {X : Type 0} (f : X → ℕ) (xs : List X) (i : ℕ) (x : X) → slice_get xs i ≡ Some x → set_of (map f (take (i + 1) xs)) ≡ set.insert (set_of (map f (take i xs))) (f x)
 set_more f xs i x at =
     ap (λ ys. set_of (map f ys)) (take_item xs i x at)
     ∙ ap set_of (map-append f (take i xs) (x ∷ []))
     ∙ from_list_push nat_cmp_total nat_cmp-IsAntisymmetric (map f (take i xs)) (f x)
 
--- what is known of each item is known of one item more
+-- what holds of each item, with one more item
 pub each_more : {X : Type 0} (xs ys : List X) (x : X) (i : ℕ) (P : ℕ → Option X) → length xs ≡ i → ((n : ℕ) → n < i → slice_get xs n ≡ P n) → ys ≡ xs ++ x ∷ [] → Some x ≡ P i
     → (n : ℕ) → n < i + 1 → slice_get ys n ≡ P n
 each_more xs ys x i P count each is here n lt =

@@ -1,4 +1,4 @@
--- A plain model in numbers: its lists of atoms are the sets of their predicates, and its costs are numbers.
+-- A plain model as a task on numbers: its lists of atoms are the sets of their predicates, and its costs are numbers.
 use Rattle.std.proofs.Common.{◌≡◌, ℕ, ◌+◌, ◌^◌, ◌≤◌, ◌<◌, zero, suc, Bool, true, false, cond, List, [], ◌∷◌, length, map, Option, Some, None, unwrap_or, refl, sym, ap, ◌∙◌, subst, arith, ⊎_elim}
 use Rattle.std.specs.Prelude.{nat_eq, ◌↔◌, ◌&&◌, not, nat_lt, All, Contains, slice_get, IsTrue}
 use Rattle.std.specs.List.{list_any, list_all}
@@ -38,7 +38,7 @@ use Rattle.plain_program.specs.Numbered.{IsNamed, action_of, IsNumbered, facts_o
 use Rattle.plain_program.proofs.ListFacts.{in_set, from_set}
 use Rattle.mre_base.proofs.Listed.{map-contains, contains-map}
 
--- ---- what fits a plain vocabulary has no objects
+-- ---- atoms and actions of a plain vocabulary have no objects
 
 none_is : {X : Type 0} (xs : List X) → has_none xs ≡ true → xs ≡ []
 none_is [] e = refl
@@ -60,7 +60,7 @@ plain_arguments is_of signatures n args plain fit =
     let at = entry_passes (λ s. pointwise is_of args s.params) signatures n fit in
     no_arguments is_of args at.0.params (plain_at signatures n at.0 plain at.1) at.2
 
--- what a plain vocabulary is, part by part
+-- the parts of a plain vocabulary
 pub record IsPlain (words : Vocabulary) : Type 0 where
   pub predicates : list_all (λ s. has_none s.params) words.predicates ≡ true
   pub actions : list_all (λ s. has_none s.params) words.actions ≡ true
@@ -92,7 +92,7 @@ action_fits words plain n s at =
 same_ground : (a b : GroundAtom) → a.predicate ≡ b.predicate → a.objects ≡ b.objects → a ≡ b
 same_ground a b p o = λ i. record { predicate = p i; objects = o i }
 
--- listed facts without objects are those whose predicates are in the set
+-- a fact without objects is listed exactly if its predicate is in the set
 facts_named : (atoms : List GroundAtom) → ((a : GroundAtom) → Contains atoms a → a.objects ≡ []) → (atom : GroundAtom) → (list_any (same_atom atom) atoms ≡ true) ↔ IsNamed (set_of (facts_of atoms)) atom
 facts_named atoms bare atom = (
   λ on. let listed = listed_from_any same_atom same_atom-decides atom atoms on in
@@ -101,7 +101,7 @@ facts_named atoms bare atom = (
       any_from_listed same_atom same_atom-decides atom atoms (subst (Contains atoms) (same_ground from.0 atom from.2 (bare from.0 from.1 ∙ sym named.0)) from.1),
 )
 
--- a schema's atoms, likewise
+-- the same of a schema's atoms
 atoms_named : (fs : List SchemaAtom) → ((f : SchemaAtom) → Contains fs f → f.args ≡ []) → (atom : GroundAtom)
     → ((f : SchemaAtom) × (list_any (same_schema_atom f) fs ≡ true) × (instance [] f ≡ atom)) ↔ IsNamed (set_of (predicates_of fs)) atom
 atoms_named fs bare atom = (
@@ -116,7 +116,7 @@ atoms_named fs bare atom = (
   ),
 )
 
--- ---- a model and the task made of it
+-- ---- a model and its task
 
 abbrev Listed : Type 0
 Listed = List SchemaAtom
@@ -154,7 +154,7 @@ module _ (model : Model) (plain : is_plain model.words ≡ true) where
     abbrev action_by : ℕ → Option Schema → ActionMeaning
     action_by n schema = unwrap_or (option_map (λ s. action_meaning (numbered model n s)) schema) no_action
 
-    -- the places of a schema's atoms are those of the action's set
+    -- a schema has an atom exactly if the action's set has its predicate
     part_named : (part : Schema → Listed) (of : ActionMeaning → Numbers) (none : of no_action ≡ set.empty) (n : ℕ) (some : (s : Schema) → of (action_meaning (numbered model n s)) ≡ set_of (predicates_of (part s)))
         → ((s : Schema) → slice_get model.schemas n ≡ Some s → (f : SchemaAtom) → Contains (part s) f → f.args ≡ [])
         → (atom : GroundAtom) → ((f : SchemaAtom) × (schema_has part model n f ≡ true) × (instance [] f ≡ atom)) ↔ IsNamed (of (action_at task n)) atom
@@ -225,7 +225,7 @@ module _ (model : Model) where
   pub facts_below : (bound : ℕ) (facts : List GroundAtom) (numbers : Numbers) → numbers ≡ set_of (facts_of facts) → All (λ a. a.predicate < bound) facts → AllBelow bound numbers
   facts_below bound facts numbers is within = subst (AllBelow bound) (sym is) (below_listed bound (facts_of facts) (All-map (λ x. x < bound) (λ a. a.predicate) facts within))
 
-  -- likewise the predicate of each atom of a schema
+  -- the predicate of each atom of a schema is listed
   part_within : (params : List ℕ) (fs : List SchemaAtom) (list : List ℕ) (bound : ℕ) → atoms ≤ bound → list ≡ predicates_of fs → All (λ f. IsTrue (is_schema_atom model.words params f)) fs → All (λ x. x < bound) list
   part_within params fs list bound le is fit =
       subst (All (λ x. x < bound)) (sym is)
@@ -246,7 +246,7 @@ module _ (model : Model) where
       (part_within signature.0.params schema.del action.del (atoms + 1) (omega arith) del kept.del_kept.fit)
       cost
 
-  -- what is known of the actions with numbers is known of each number
+  -- what holds of the listed actions holds of each number
   pub each_action : (actions : List TaskAction) → length actions ≡ length model.schemas
       → ((n : ℕ) → n < length model.schemas → slice_get actions n ≡ option_map (numbered model n) (slice_get model.schemas n))
       → (n : ℕ) → slice_get (map action_meaning actions) n ≡ option_map (λ s. action_meaning (numbered model n s)) (slice_get model.schemas n)

@@ -1,4 +1,4 @@
--- Runs in numbers: a list of numbers is valid in the task exactly where the actions with these numbers are valid in the model, at equal costs.
+-- Runs of a task: a list of numbers is valid there exactly if the actions with these numbers are valid in the model, and costs the same.
 use Rattle.std.proofs.Common.{◌≡◌, ℕ, ◌+◌, ◌*◌, ◌^◌, ◌≤◌, ◌<◌, zero, suc, Bool, true, List, [], ◌∷◌, length, Some, unwrap_or, refl, sym, ap, ◌∙◌, subst, arith, ⊎_elim, inl, inr, Fits, w64}
 use Rattle.std.specs.Prelude.{◌↔◌, ◌&&◌, not, All, slice_get, is_some, take}
 use Rattle.std.specs.Cmp.{nat_cmp_total}
@@ -29,7 +29,7 @@ use Rattle.plain_program.proofs.NumberLemmas.{action_bare, action_fits}
 abbrev atom_of : ℕ → GroundAtom
 atom_of predicate = record { predicate = predicate; objects = [] }
 
--- the state has the atoms without objects whose numbers are in the set, and no others
+-- the state has exactly the atoms without objects whose numbers are in the set
 abbrev pub Mirrors : State → Numbers → Type 0
 Mirrors state numbers = (atom : GroundAtom) → state atom ↔ IsNamed numbers atom
 
@@ -83,7 +83,7 @@ module _ (model : Meaning) (task : TaskMeaning) (is : IsNumbered model task) whe
   leads_from s numbers (n ∷ list) mirrors valid =
       (applies_from s numbers n mirrors valid.0, leads_from (After model s (action_of n)) (after task n numbers) list (after_mirrors s numbers n mirrors) valid.1)
 
-  -- a list is valid in numbers exactly where it is valid
+  -- a list of numbers is valid exactly if its actions are
   pub valid_to : (list : List ℕ) → IsValid model (actions_of list) → IsTaskValid task list
   valid_to list = leads_to (Initial model) task.start list is.initial
 
@@ -102,7 +102,7 @@ module _ (model : Meaning) (task : TaskMeaning) (is : IsNumbered model task) whe
 pub same_action : (action : GroundAction) → action.objects ≡ [] → action_of action.schema ≡ action
 same_action action bare = λ i. record { schema = action.schema; objects = sym bare i }
 
--- ground actions of a plain vocabulary are those with their numbers
+-- a plan of a plain vocabulary is the list of the actions with its numbers
 pub named_again : (words : Vocabulary) → is_plain words ≡ true → (plan : List GroundAction) → All (IsGroundAction words) plan → actions_of (numbers_of plan) ≡ plan
 named_again words plain [] fits = refl
 named_again words plain (action ∷ plan) fits = λ i.
@@ -123,7 +123,7 @@ action_listed words plain action bare lt =
     let at = item_there words.actions action.schema lt in
     subst (IsGroundAction words) (same_action action bare) (action_fits words plain action.schema at.0 at.1)
 
--- what is listed is a ground action
+-- each listed number is that of a ground action
 pub listed_fits : (words : Vocabulary) → is_plain words ≡ true → (list : List ℕ) → All (λ n. n < length words.actions) list → All (IsGroundAction words) (actions_of list)
 listed_fits words plain [] listed = All-nil (IsGroundAction words)
 listed_fits words plain (n ∷ list) listed =
@@ -134,7 +134,7 @@ listed_fits words plain (n ∷ list) listed =
 -- ---- lists of a task
 
 module _ (task : TaskMeaning) where
-  -- what applies is listed
+  -- an action that applies is listed
   applies_listed : (n : ℕ) (numbers : Numbers) → applies task n numbers ≡ true → n < length task.actions
   applies_listed n numbers does =
       ⊎_elim (λ lt. lt)
@@ -164,7 +164,7 @@ module _ (task : TaskMeaning) where
 -- ---- cheapest lists
 
 module _ (words : Vocabulary) (plain : is_plain words ≡ true) (model : Meaning) (task : TaskMeaning) (is : IsNumbered model task) where
-  -- no valid list of the task costs less, so no valid list of ground actions does
+  -- if no valid list of the task costs less, no valid list of ground actions does
   pub none_cheaper : (list : List ℕ) → IsTaskValid task list → HasNoCheaper task (task_cost_of task list) → IsCheapest words model (actions_of list)
   none_cheaper list valid least = record {
     valid = valid_from model task is list valid;
@@ -179,7 +179,7 @@ module _ (words : Vocabulary) (plain : is_plain words ≡ true) (model : Meaning
       let fits = listed_fits words plain other (subst (λ k. All (λ n. n < k) other) count (valid_listed task task.start other valid)) in
       omega (arith, cheapest.least (actions_of other) fits (valid_from model task is other valid), cost_same model task is list, cost_same model task is other, less)
 
--- ---- the sum of costs, one action more
+-- ---- the sum of costs, with one more action
 
 module _ (task : TaskMeaning) (list : List ℕ) (i : ℕ) (n : ℕ) (at : slice_get list i ≡ Some n) (cost : ℕ) (is : cost ≡ price task n) (sum : ℕ) (before : sum ≡ task_cost_of task (take i list)) where
   pub sum_more : sum + cost ≡ task_cost_of task (take (i + 1) list)

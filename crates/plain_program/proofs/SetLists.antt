@@ -1,4 +1,4 @@
--- Lists of sets made by doubling, and the set of all numbers up to a bound.
+-- Lists of sets by doubling, and the set of all numbers up to a bound.
 use Rattle.std.proofs.Common.{◌≡◌, ℕ, ◌+◌, ◌<◌, zero, suc, List, [], ◌∷◌, ◌++◌, length, take, Some, refl, sym, ap, ◌∙◌, subst, arith, add-one, append_assoc}
 use Rattle.std.specs.Prelude.{slice_get, Contains}
 use Rattle.std.specs.List.{range_with_len}
@@ -10,6 +10,7 @@ use Rattle.cube_kit.specs.Cubes.{all_to}
 use Rattle.task_kit.proofs.PlaceLemmas.{item_there, same_some}
 use Rattle.model_kit.proofs.FirstLemmas as first
 use Rattle.mre_base.proofs.Loops.{map_item}
+use Rattle.mre_base.proofs.Listed.{slice_get-append}
 use Rattle.model_kit.proofs.OrderLemmas.{Within}
 use Rattle.plain_program.specs.Subsets.{all_with, subsets}
 
@@ -30,17 +31,12 @@ all_more n old new before is =
 
 -- ---- doubling
 
-get_append : {X : Type 0} (xs ys : List X) (i : ℕ) (x : X) → slice_get xs i ≡ Some x → slice_get (xs ++ ys) i ≡ Some x
-get_append [] ys i x at = absurd (cc)
-get_append (z ∷ xs) ys zero x at = at
-get_append (z ∷ xs) ys (suc i) x at = get_append xs ys i x at
-
 pub double_more : (place at : ℕ) (begin now new : List (set.FinSet nat_cmp)) (item more : set.FinSet nat_cmp)
     → now ≡ begin ++ all_with place (take at begin) → at < length begin → slice_get now at ≡ Some item → more ≡ set.insert item place → new ≡ now ++ more ∷ []
     → new ≡ begin ++ all_with place (take (at + 1) begin)
 double_more place at begin now new item more before lt there is pushed =
     let here = item_there begin at lt in
-    let same : item ≡ here.0 = same_some item here.0 (sym there ∙ ap (λ xs. slice_get xs at) before ∙ get_append begin (all_with place (take at begin)) at here.0 here.1) in
+    let same : item ≡ here.0 = same_some item here.0 (sym there ∙ ap (λ xs. slice_get xs at) before ∙ slice_get-append begin (all_with place (take at begin)) at here.0 here.1) in
     pushed
     ∙ ap (λ xs. xs ++ more ∷ []) before
     ∙ append_assoc begin (all_with place (take at begin)) (more ∷ [])
@@ -53,7 +49,7 @@ doubled n old new before is =
     ∙ ap (λ k. subsets n ++ all_with k (subsets n)) (add-one n)
     ∙ ap subsets (sym (add-one n))
 
--- ---- all of them are there
+-- ---- each set within the bound is listed
 
 same_subsets : (n : ℕ) → first.subsets n ≡ subsets n
 same_subsets zero = refl

@@ -1,4 +1,4 @@
--- What the plain program answers: a cheapest valid list where the plan is none, and the first
+-- The answers of the plain program: a cheapest valid list, if the plan isn't one, and the first
 -- complete set with the plan's cost after it.
 use Rattle.std.specs.Prelude.{◌≡◌, ◌<◌, List, All}
 use Rattle.model_kit.specs.declared.vocabulary.Vocabulary.{Vocabulary}
@@ -11,7 +11,7 @@ use Rattle.model_kit.specs.Explanations.{Task, IsMCE}
 use Rattle.plain_program.specs.declared.answer.Foil.{Foil}
 use Rattle.plain_program.specs.declared.answer.FirstComplete.{FirstComplete}
 
--- a cheapest valid list of ground actions, and it costs less than the plan
+-- the list is a cheapest valid list of ground actions with its cost, and costs less than the plan
 pub record IsCheaper (words : Vocabulary) (model : Meaning) (plan : List GroundAction)
     (foil : Foil) : Type 0 where
   pub fits : All (IsGroundAction words) foil.plan.steps

@@ -1,5 +1,5 @@
--- How the first complete set is found: each set is kept in place of the best one so far where it is
--- complete and before it.
+-- How the first complete set is found: a set replaces the best one so far if it is complete and
+-- comes before it.
 use Rattle.std.specs.Prelude.{ℕ, ◌≡◌, ◌⊎◌, true, List}
 use Rattle.std.specs.Ordering.{nat_cmp}
 use Rattle.std.specs.FinSet as set
@@ -18,7 +18,7 @@ use Rattle.plain_program.specs.Tasks.{even_task}
 abbrev pub cost_after : Task → set.FinSet nat_cmp → ℕ
 cost_after task told = cost (patched task.planner task.user task.places told) task.plan
 
--- a fact of the task of a pair, its differences, which are determined by the pair, and a plan
+-- a fact about the task of a pair and a plan; the pair has one list of differences
 abbrev pub OfTask : Model → Model → List GroundAction → (Task → Type 0) → Type 0
 OfTask planner user plan Fact =
     (differences : List Difference) → AreDifferencesOf planner user differences
@@ -28,7 +28,7 @@ OfTask planner user plan Fact =
 abbrev pub IsPriced : Task → set.FinSet nat_cmp → ℕ → Type 0
 IsPriced task told price = IsComplete task told × (price ≡ cost_after task told)
 
--- of the best set so far and another one, the first of those that are complete is kept
+-- the best set so far is kept, or another set that is complete and comes before it
 abbrev pub Keeps : Task → FirstComplete → set.FinSet nat_cmp → FirstComplete → Type 0
 Keeps task best told kept =
     ((kept ≡ best) × ¬ (IsComplete task told × (is_before task.weights told best.told ≡ true)))

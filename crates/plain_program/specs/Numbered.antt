@@ -1,4 +1,4 @@
--- Plain models in numbers: an atom is the number of its predicate, and an action is the number of
+-- Plain models as tasks on numbers: an atom is the number of its predicate, an action the number of
 -- its schema.
 use Rattle.std.specs.Prelude.{ℕ, ◌≡◌, ◌==◌, ◌↔◌, true, List, [], map, Option, None, Some}
 use Rattle.std.specs.Prelude.{if◌then◌else◌}
@@ -26,14 +26,15 @@ IsNamed numbers atom = (atom.objects ≡ []) × (set.contains numbers atom.predi
 abbrev pub action_of : ℕ → GroundAction
 action_of schema = record { schema = schema; objects = [] }
 
--- the actions with these numbers, and the numbers of these actions
+-- the actions with these numbers
 abbrev pub actions_of : List ℕ → List GroundAction
 actions_of list = map action_of list
 
+-- the numbers of these actions
 abbrev pub numbers_of : List GroundAction → List ℕ
 numbers_of plan = map (λ action. action.schema) plan
 
--- the task says in numbers what the model says of atoms and actions without objects
+-- the task and the model agree on all atoms and actions without objects
 pub record IsNumbered (model : Meaning) (task : TaskMeaning) : Type 0 where
   pub initial : (atom : GroundAtom) → Has model (Init atom) ↔ IsNamed task.start atom
   pub goal : (atom : GroundAtom) → Has model (Goal atom) ↔ IsNamed task.goal atom
@@ -45,18 +46,19 @@ pub record IsNumbered (model : Meaning) (task : TaskMeaning) : Type 0 where
       → Deletes model (action_of n) atom ↔ IsNamed (action_at task n).del atom
   pub costs : (n : ℕ) → cost_of model (action_of n) ≡ cost_at task n
 
--- what a task means
+-- the meaning of a task
 abbrev pub meant : Task → TaskMeaning
 meant task = task_meaning task.atoms task.start task.goal task.actions
 
--- the predicates of atoms
+-- the predicates of ground atoms
 abbrev pub facts_of : List GroundAtom → List ℕ
 facts_of atoms = map (λ atom. atom.predicate) atoms
 
+-- the predicates of a schema's atoms
 abbrev pub predicates_of : List SchemaAtom → List ℕ
 predicates_of atoms = map (λ atom. atom.predicate) atoms
 
--- the number of a cost expression
+-- the number of a cost expression, if it is one
 abbrev pub number_of : CostExpr → Option ℕ
 number_of (Number n) = Some n
 number_of (Call function args) = None

@@ -1,10 +1,10 @@
--- All sets of the numbers from 1 to a bound, made by doubling: each set so far without the next
--- number, and with it.
+-- All sets of the numbers from 1 to a bound, by doubling: each set so far without the next number,
+-- and with it.
 use Rattle.std.specs.Prelude.{ℕ, zero, suc, List, [], ◌∷◌, ◌++◌, map}
 use Rattle.std.specs.Ordering.{nat_cmp}
 use Rattle.std.specs.FinSet as set
 
--- each set with one number more
+-- each set with one more number
 abbrev pub all_with : ℕ → List (set.FinSet nat_cmp) → List (set.FinSet nat_cmp)
 all_with place sets = map (λ s. set.insert s place) sets
 

@@ -1,3 +1,5 @@
+//! The answers of the plain program: a cheaper list, and the first complete set.
+
 ghost use Rattle.std.specs.Prelude.{◌≡◌, ◌≤◌, ◌<◌, ◌^◌, length, All, IsTrue, IfOk, IfSome, IfNone};
 ghost use Rattle.model_kit.specs.Places.{meaning};
 ghost use Rattle.model_kit.specs.Vocabulary.{IsGroundAction};
@@ -17,7 +19,7 @@ use mre_base::{List, NoMemory, Places};
 use std::alloc::Global;
 use task_kit::cheapest_below;
 
-/// A cheapest valid list of ground actions, which is cheaper than a plan, with its cost.
+/// A cheapest valid list of ground actions, cheaper than a plan, with its cost.
 #[derive(Debug, Drop)]
 pub struct Foil {
     pub plan: Plan,
@@ -32,9 +34,8 @@ pub struct FirstComplete {
     pub cost: u64,
 }
 
-/// A cheapest valid list where it costs less than the plan, which is valid in the model, or none
-/// where the plan is cheapest there. The
-/// model has no parameters, types or functions.
+/// A cheapest valid list, if it costs less than the plan; the plan is valid in the model. `None` if
+/// the plan is cheapest there. The model has no parameters and no functions.
 pub fn cheaper_list(alloc: Global, model: &Model, plan: &Plan) -> Result<Option<Foil>, NoMemory>
     requires plain { IsTrue (is_plain model.now.words) }
     requires predicates { length model.now.words.predicates < 2 ^ 30 }
@@ -57,9 +58,9 @@ pub fn cheaper_list(alloc: Global, model: &Model, plan: &Plan) -> Result<Option<
     Ok(Some(Foil { plan, cost }))
 }
 
-/// The first complete set of at most 16 differences, each of weight 1: every set is tried. The plan
-/// is cheapest in the planner's
-/// model, so that there is one. The models have no parameters, types or functions.
+/// The first complete set of at most 16 differences, each of weight 1: every set is tried. There is
+/// one, since the plan is cheapest in the planner's model. The models have no parameters and no
+/// functions.
 pub fn first_complete(
     alloc: Global,
     pair: &Pair,

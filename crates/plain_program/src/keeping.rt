@@ -1,3 +1,5 @@
+//! The best complete set so far.
+
 ghost use Rattle.std.specs.Prelude.{◌≤◌, ◌^◌, ◌<◌, length, All, IsTrue, IfOk, IfSome, IfNone};
 ghost use Rattle.model_kit.specs.Plain.{is_plain};
 ghost use Rattle.model_kit.specs.Explanations.{IsComplete};
@@ -12,8 +14,7 @@ use feature_diff::Pair;
 use mre_base::{List, NoMemory, Places};
 use std::alloc::Global;
 
-// What a plan costs in the user's model after a set of differences where it is cheapest there, and
-// none where it isn't.
+// What a plan costs in the user's model after a set of differences, if it is cheapest there.
 fn cost_if_complete(
     alloc: Global,
     pair: &Pair,
@@ -37,7 +38,7 @@ fn cost_if_complete(
     cost_where_cheapest(alloc, &model, list)
 }
 
-// Of the best set so far and another one, the first of those that are complete.
+// The best set so far, or another set if that is complete and comes before it.
 pub(crate) fn keep_first(
     alloc: Global,
     pair: &Pair,

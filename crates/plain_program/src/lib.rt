@@ -1,5 +1,5 @@
-//! The plain program: the definitions computed on small inputs, set by set, each judged on a task
-//! of numbers by a plain search.
+//! The plain program: the definitions computed on small inputs. Every set of differences is tried,
+//! and each is judged by a plain search on a task of numbers.
 #![tactic(auto)]
 
 mod answer;

@@ -1,3 +1,5 @@
+//! Plain models and plans as tasks and lists of numbers.
+
 ghost use Rattle.std.specs.Prelude.{ℕ, ◌≡◌, ◌+◌, ◌^◌, ◌<◌, length, map, All, IsTrue, IfOk, Some};
 ghost use Rattle.std.specs.Prelude.{slice_get, unwrap_or};
 ghost use Rattle.std.specs.Option.{option_map};
@@ -33,7 +35,7 @@ pub(crate) fn number_model(alloc: Global, model: &Model) -> Result<Task, NoMemor
     })
 }
 
-// The set of the atoms' predicates.
+// The set of the predicates of the facts.
 fn fact_set(alloc: Global, atoms: u32, facts: &List<GroundAtom>) -> Result<Bits, NoMemory>
     requires few { atoms + 1 < 2 ^ 32 }
     requires listed { All (λ atom. atom.predicate < atoms) facts.now }
@@ -47,7 +49,7 @@ fn fact_set(alloc: Global, atoms: u32, facts: &List<GroundAtom>) -> Result<Bits,
     Ok(bits)
 }
 
-// The actions of a model by the numbers of their schemas.
+// The actions of a model, in the order of their schemas.
 fn number_actions(alloc: Global, model: &Model) -> Result<List<TaskAction>, NoMemory>
     requires predicates { length model.now.words.predicates < 2 ^ 30 }
     requires actions { length model.now.words.actions < 2 ^ 30 }
@@ -97,7 +99,7 @@ fn known_cost(model: &Model, action: u32, schema: &Schema) -> Option<u32>
     }
 }
 
-// The predicates of a list of atoms, one by one.
+// The predicate of each atom of a list.
 fn predicate_list(alloc: Global, atoms: &List<SchemaAtom>) -> Result<List<u32>, NoMemory>
     ensures { IfOk result (λ list. list ≡ predicates_of atoms.now) }
 {
@@ -119,7 +121,7 @@ pub(crate) fn number_plan(alloc: Global, plan: &Plan) -> Result<List<u32>, NoMem
     Ok(list)
 }
 
-// The actions with these numbers.
+// The plan of the actions with these numbers.
 pub(crate) fn name_plan(alloc: Global, list: &List<u32>) -> Result<Plan, NoMemory>
     ensures { IfOk result (λ plan. plan.steps ≡ actions_of list.now) }
 {

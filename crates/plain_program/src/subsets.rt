@@ -1,3 +1,5 @@
+//! All sets of difference numbers.
+
 ghost use Rattle.std.specs.Prelude.{◌≡◌, ◌++◌, ◌≤◌, IfOk, OnOk};
 ghost use Rattle.cube_kit.specs.Cubes.{all_to};
 ghost use Rattle.plain_program.specs.Subsets.{all_with, subsets};
@@ -30,7 +32,7 @@ pub(crate) fn all_sets(alloc: Global, bound: u32) -> Result<List<Places>, NoMemo
     Ok(sets)
 }
 
-// Adds to the sets each of them with one number more.
+// Adds to the sets a copy of each with one more number.
 fn double(sets: &mut List<Places>, place: u32) -> Result<(), NoMemory>
     requires low { 1 ≤ place }
     requires high { place ≤ 256 }

@@ -1,3 +1,5 @@
+//! The cost of a plan in a plain model, if the plan is valid or cheapest there.
+
 ghost use Rattle.std.specs.Prelude.{◌≡◌, ◌≤◌, ◌+◌, ◌^◌, ◌<◌, length, All, IsTrue, IfOk, IfSome};
 ghost use Rattle.std.specs.Prelude.{IfNone};
 ghost use Rattle.model_kit.specs.Places.{meaning};
@@ -38,7 +40,7 @@ pub(crate) fn cost_in(alloc: Global, model: &Model, list: &List<u32>) -> Result<
     Ok(sum_of(&task, list))
 }
 
-// What a list of actions costs where it is valid, and none where it isn't.
+// What a list of actions costs, if it is valid.
 fn cost_where_valid<T: TaskView>(
     alloc: Global,
     task: &T,
@@ -58,7 +60,7 @@ fn cost_where_valid<T: TaskView>(
     }
 }
 
-// What a plan costs in a plain model where it is cheapest, and none where it isn't.
+// What a plan costs in a plain model, if it is cheapest there.
 pub(crate) fn cost_where_cheapest(
     alloc: Global,
     model: &Model,

@@ -1,4 +1,4 @@
--- The test of used places says what the definition says, and the numbers that pass it are a set made by a loop.
+-- The test of used places agrees with the definition, and the loop's set has the numbers that pass it.
 use Rattle.std.proofs.Common.{◌≡◌, ℕ, ◌+◌, ◌-◌, ◌<◌, ◌≤◌, ◌==◌, zero, suc, Bool, true, false, if◌then◌else◌, nat_lt, ◌↔◌, inl, inr, List, ◌∷◌, length, Option, None, Some, refl, sym, ap, ◌∙◌, arith, add-one}
 use Rattle.std.specs.Prelude.{slice_get, IsSomeAnd, IsTrue, Any, Contains}
 use Rattle.std.specs.Bool.{Decides}
@@ -20,7 +20,7 @@ use Rattle.feature_diff.specs.declared.difference.Difference.{Difference}
 use Rattle.feature_diff.specs.Differing.{place_of, places_of}
 use Rattle.plan_uses.specs.Uses.{action_of, IsUsed, IsUsedAt, AreUsed, is_used, is_used_at, used_numbers}
 
--- ---- the set that the loop makes
+-- ---- the set of the loop
 
 pub put_in : (p : ℕ → Bool) (n : ℕ) (old new : set.FinSet nat_cmp) → old ≡ set_below p n → p n ≡ true → new ≡ set.insert old n → new ≡ set_below p (n + 1)
 unfolding set_below
@@ -38,7 +38,7 @@ left_out p n old new before fails is =
     ∙ sym (ap (λ b. if b then set.insert (set_below p n) n else set_below p n) fails)
     ∙ ap (set_below p) (sym (add-one n))
 
--- before the first number the set has none
+-- before the first number the set is empty
 pub none_before : (plan : List GroundAction) (places : List Place) (none : set.FinSet nat_cmp) → none ≡ set.empty → none ≡ set_below (is_used_at plan places) 1
 unfolding set_below
 none_before plan places none is = is
@@ -52,7 +52,7 @@ test_at plan differences n difference at =
 
 -- ---- a range of numbers
 
--- a number of the range that passes is among those that are kept
+-- a number of the range that passes the test is kept
 kept : (p : ℕ → Bool) (a n q : ℕ) → a ≤ q → q < a + n → p q ≡ true → Contains (filter p (range_with_len a n)) q
 kept p a zero q low high passes = absurd (omega arith)
 kept p a (suc n) q low high passes =
@@ -75,7 +75,7 @@ kept p a (suc n) q low high passes =
     later true c = (suc c.0, (let within = c.1 in omega arith), c.2)
     later false c = c
 
--- ---- what the test says
+-- ---- the test agrees with the definition
 
 used_by : (plan : List GroundAction) (o : Option ℕ)
     → Decides (option_map_or (λ action. list_any (λ step. step.schema == action) plan) o false) (IsSomeAnd o (λ action. Any (λ step. step.schema ≡ action) plan))
@@ -105,7 +105,7 @@ module _ (plan : List GroundAction) (places : List Place) where
       let back : suc n - 1 ≡ n = omega arith in
       ap (λ o. option_map_or (is_used plan) o false) (sym (ap (slice_get places) back) ∙ h.here) ∙ (is_used-Decides plan h.place).1 h.used
 
-  -- a used number is one of the places' numbers
+  -- a used number is the number of a place
   pub used_within : (number : ℕ) → IsUsedAt plan places number → (1 ≤ number) × (number ≤ length places)
   used_within number h =
       let low = h.counted in

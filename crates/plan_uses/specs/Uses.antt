@@ -1,5 +1,5 @@
--- Which differences a plan uses: those at the places of the actions that its steps are instances
--- of. A place is what two models can differ at.
+-- Which differences a plan uses: those at places of the actions that its steps are instances of. A
+-- place is where two models can differ.
 use Rattle.std.specs.Prelude.{ℕ, zero, suc, ◌≡◌, ◌≤◌, ◌-◌, ◌==◌, ◌↔◌, Bool, false, IsTrue, List}
 use Rattle.std.specs.Prelude.{length, filter, Option, Some, None, IsSomeAnd, Any, slice_get}
 use Rattle.std.specs.List.{list_any, range_with_len}
@@ -9,8 +9,8 @@ use Rattle.std.specs.FinSet as set
 use Rattle.model_kit.specs.declared.action.GroundAction.{GroundAction}
 use Rattle.model_kit.specs.Places.{Place, Init, Goal, Knows, Pre, Add, Del, Cost, Value}
 
--- the action that a place is of: its knowledge, preconditions, adds, deletes and cost; a fact and a
--- value are of none
+-- the action that a place belongs to: its knowledge, its preconditions, adds and deletes, and its
+-- cost; facts and values belong to no action
 abbrev pub action_of : Place → Option ℕ
 action_of (Init atom) = None
 action_of (Goal atom) = None
@@ -21,7 +21,7 @@ action_of (Del action atom) = Some action
 action_of (Cost action) = Some action
 action_of (Value function objects) = None
 
--- the place is of an action that some step of the plan is an instance of
+-- the place belongs to an action of which some step of the plan is an instance
 abbrev pub IsUsed : List GroundAction → Place → Type 0
 IsUsed plan place = IsSomeAnd (action_of place) (λ action. Any (λ step. step.schema ≡ action) plan)
 
@@ -37,12 +37,12 @@ abbrev pub AreUsed : List GroundAction → List Place → set.FinSet nat_cmp →
 AreUsed plan places chosen =
     (number : ℕ) → IsTrue (set.contains chosen number) ↔ IsUsedAt plan places number
 
--- that a place is used, as a test
+-- whether a place is used, as a test
 abbrev pub is_used : List GroundAction → Place → Bool
 is_used plan place =
     option_map_or (λ action. list_any (λ step. step.schema == action) plan) (action_of place) false
 
--- that the place with this number is used, as a test
+-- whether the place with this number is used, as a test
 abbrev pub is_used_at : List GroundAction → List Place → ℕ → Bool
 is_used_at plan places zero = false
 is_used_at plan places (suc n) = option_map_or (is_used plan) (slice_get places n) false

@@ -1,4 +1,4 @@
-//! Which differences of two models are on the actions that a plan uses.
+//! Which differences of two models belong to the actions that a plan uses.
 #![tactic(auto)]
 
 mod laws;

@@ -1,3 +1,5 @@
+//! The numbers of the differences that a plan uses.
+
 ghost use Rattle.std.specs.Prelude.{ℕ, ◌≡◌, ◌≤◌, ◌==◌, length, IsTrue};
 ghost use Rattle.std.specs.List.{list_any};
 ghost use Rattle.std.specs.FinSet as set;
@@ -10,9 +12,8 @@ use feature_diff::Difference;
 use model_kit::Plan;
 use mre_base::{List, Places};
 
-/// The numbers of the differences on the knowledge, preconditions, adds, deletes or cost of a
-/// schema that the plan uses. They count
-/// from 1.
+/// The numbers of the differences in the knowledge, preconditions, adds, deletes or cost of an
+/// action that the plan uses. They count from 1.
 pub fn plan_uses(plan: &Plan, differences: &List<Difference>) -> Places
     requires few { length differences.now ≤ 256 }
     ensures used { AreUsed plan.now.steps (places_of differences.now) result }
@@ -39,7 +40,7 @@ fn is_used(plan: &Plan, difference: &Difference) -> bool
     }
 }
 
-// The action that the difference is on.
+// The action that the difference belongs to, if any.
 fn action_of(difference: &Difference) -> Option<u32>
     ensures { result ≡ action_at (place_of difference.now) }
 {

@@ -1,3 +1,4 @@
+//! Tests of numbers and of the sorts of words.
 use pddl_form::{Sort, law_domains, law_forms, law_numbers, law_problems, number_of, sort_of};
 
 #[test]

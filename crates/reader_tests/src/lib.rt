@@ -1,5 +1,5 @@
-//! What the first passes over PDDL make of bytes, as tables: words, lists and lines where a text is
-//! well formed, else its first fault.
+//! Tests of the first passes over PDDL, as tables from bytes: the words, lists and lines of a
+//! well-formed text, or the first fault.
 #![tactic(auto)]
 
 #[cfg(test)]

@@ -1,9 +1,10 @@
+//! Tests of the words and lists of texts, and of the lines of plans.
 ghost use Rattle.std.specs.Prelude.{◌^◌, ◌<◌, length};
 
 use mre_base::List;
 use pddl_text::{
-    Forest, Place, PlanLine, ReadStop, TextRule, Tree, law_forests, law_plans, law_tokens,
-    read_forest, read_plan_lines,
+    Forest, Place, PlanLine, ReadStop, Tree, law_forests, law_plans, law_tokens, read_forest,
+    read_plan_lines,
 };
 use std::alloc::{AllocError, Global};
 use std::test::Fail;
@@ -67,19 +68,12 @@ fn shown_lines(alloc: Global, lines: &List<PlanLine>) -> Result<String, AllocErr
     Ok(shown)
 }
 
-// The rule and the place of a fault, with its word behind them where it has one.
+// A fault as `rule@line:column` and its word.
 fn shown_stop(alloc: Global, stop: &ReadStop) -> Result<String, AllocError> {
     let mut shown = String::new(alloc);
     match stop {
         ReadStop::Fault(fault) => {
-            shown.push_str(match fault.rule {
-                TextRule::Byte => "byte",
-                TextRule::Close => "close",
-                TextRule::Deep => "deep",
-                TextRule::Open => "open",
-                TextRule::Form => "form",
-                _ => "another rule",
-            })?;
+            shown.push_str(fault.rule.name())?;
             push_place(alloc, &mut shown, fault.at)?;
             shown.push_str(fault.word.as_str())?;
         }
@@ -88,7 +82,7 @@ fn shown_stop(alloc: Global, stop: &ReadStop) -> Result<String, AllocError> {
     Ok(shown)
 }
 
-// What is read of a text: its forest, or its fault.
+// The forest of a text, or its fault.
 fn read_text(alloc: Global, text: &[u8]) -> Result<String, AllocError>
     requires { length text.now < 2 ^ 28 }
 {
@@ -98,7 +92,7 @@ fn read_text(alloc: Global, text: &[u8]) -> Result<String, AllocError>
     }
 }
 
-// What is read of a plan: its lines, or its fault.
+// The lines of a plan, or its fault.
 fn read_plan(alloc: Global, text: &[u8]) -> Result<String, AllocError>
     requires { length text.now < 2 ^ 28 }
 {
@@ -265,7 +259,7 @@ fn first_faults_of_plans(rt: HostRuntime) -> Result<(), Fail> {
     Ok(())
 }
 
-// As many `(` as asked for, and behind them as many `)`.
+// This number of `(` and then this number of `)`.
 fn nested(alloc: Global, opened: usize, closed: usize) -> Result<Vec<u8>, AllocError> {
     let mut text = Vec::new(alloc);
     for _ in 0..opened {

@@ -1,13 +1,10 @@
--- Whether none of some signatures has parameters, signature by signature.
+-- Whether all signatures of a list are without parameters, by a loop over them.
 use Rattle.std.proofs.Common.{◌≡◌, ℕ, zero, suc, ◌+◌, ◌<◌, ◌≤◌, true, false, ◌&&◌, List, [], ◌∷◌, take, length, Some, refl, ap, ◌∙◌, add-one, arith}
 use Rattle.std.specs.Prelude.{slice_get}
 use Rattle.std.specs.List.{list_all}
 use Rattle.std.proofs.lemmas.Option.{same_Some}
 use Rattle.model_kit.specs.declared.vocabulary.Signature.{Signature}
 use Rattle.model_kit.specs.Plain.{has_none}
-
-is_bare : Signature → Type 0
-is_bare signature = has_none signature.params ≡ true
 
 some_there : (params : List ℕ) → 0 < length params → has_none params ≡ false
 some_there [] h = absurd (omega arith)
@@ -17,7 +14,7 @@ none_there : (params : List ℕ) → length params ≤ 0 → has_none params ≡
 none_there [] h = refl
 none_there (p ∷ params) h = absurd (omega arith)
 
--- this one has some
+-- one of them has parameters
 pub not_all : (signatures : List Signature) (n : ℕ) (signature : Signature) → slice_get signatures n ≡ Some signature → 0 < length signature.params
     → list_all (λ (s : Signature). has_none s.params) signatures ≡ false
 not_all [] n signature at some = absurd (cc)
@@ -36,7 +33,7 @@ all_suc (s ∷ signatures) (suc n) signature at none before =
     → (b && list_all (λ (s : Signature). has_none s.params) (take (suc n) signatures)) ≡ true)
     [ true ↦ (λ rest. all_suc signatures n signature at none rest) | false ↦ (λ e. e) ] before
 
--- one more that has none
+-- one more without parameters
 pub all_more : (signatures : List Signature) (n : ℕ) (signature : Signature) → slice_get signatures n ≡ Some signature → length signature.params ≤ 0
     → list_all (λ (s : Signature). has_none s.params) (take n signatures) ≡ true → list_all (λ (s : Signature). has_none s.params) (take (n + 1) signatures) ≡ true
 all_more signatures n signature at none before =

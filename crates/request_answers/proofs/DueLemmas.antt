@@ -1,4 +1,4 @@
--- What is made of a question is the answer to the request about the contents; and a stop on the way has its cause in them.
+-- The answer to a question is the answer to the request about the contents, and the contents are the cause of a stop on the way.
 use Rattle.std.proofs.Common.{◌≡◌, ℕ, ◌<◌, ◌≤◌, true, List, [], length, Option, None, Some, refl, sym, subst, inl, inr, arith}
 use Rattle.std.specs.Prelude.{IfNone, IfSome, IsTrue}
 use Rattle.std.specs.Ordering.{nat_cmp}
@@ -124,7 +124,7 @@ due_question request contents (Disagree fault) of = of
 due_question request contents NoMemory of = tt
 due_question request contents _ of = absurd of
 
--- what is made is the answer
+-- the answer to the question is the answer to the request
 pub made_answer : (request : Request) (contents : List (List ℕ)) (question : Question) → IsQuestion request contents question → (told : set.FinSet nat_cmp) (text : List ℕ)
     → IsMadeOf request question told text → IsAnswer request contents told text
 made_answer (Explain kind files) contents question is told text of =

@@ -1,4 +1,4 @@
--- What stands behind a stop, or behind an answer, is how the contents end.
+-- Contents that are the cause of a stop, or that have an answer, end with that status.
 use Rattle.std.proofs.Common.{◌≡◌, ◌⊎◌, ℕ, List, length, refl, sym, subst, inl, inr, arith}
 use Rattle.std.specs.Prelude.{◌≢◌, IsTrue}
 use Rattle.std.specs.Ordering.{nat_cmp}
@@ -26,7 +26,7 @@ use Rattle.request_answers.specs.Counts.{AreSmall}
 use Rattle.request_answers.specs.Ends.{AtSearch, AtQuestion, IsLarge, AreDiffering, EndsAt, misread, read}
 
 module _ (request : Request) (contents : List (List ℕ)) where
-  -- a question and what comes of its words and differences
+  -- a question ends as its counts and the rest say
   at_joined : (planner user : Model) (plan : List GroundAction) (pose : Pose request contents planner user plan) (status : ℕ)
       → ((status ≡ 7) × IsLarge planner.words) ⊎ (AreSmall planner.words × AreDiffering request pose.planner_read.words pose.user_read.words planner user plan status)
       → EndsAt request contents status

@@ -1,10 +1,11 @@
+mod Differing
+mod Judged
+mod SomeEnd
 pub mod MostLemmas
 pub mod Once
 mod Printing
 mod Pushed
 mod Ready
-pub mod SameLists
-pub mod SameModels
 pub mod Ending
 pub mod OneEnd
 mod BareLemmas
@@ -12,6 +13,5 @@ mod Misreading
 mod StopLemmas
 mod ListLemmas
 mod DueLemmas
-mod Lifting
 mod QuestionLemmas
 mod WholeLines

@@ -1,4 +1,4 @@
--- The lines of a list of differences, one behind another, are the printed list.
+-- The lines of a list of differences, one after another, are the printed list.
 use Rattle.std.proofs.Common.{◌≡◌, ℕ, List, [], ◌∷◌, ◌++◌, length, refl, sym, ap, ◌∙◌}
 use Rattle.std.specs.Prelude.{All, flat_map}
 use Rattle.std.specs.List.{concat}

@@ -1,4 +1,4 @@
--- A text that has a fault is the first such, where each before it is a text.
+-- The first ill-formed text, from the step that stopped at it.
 use Rattle.std.proofs.Common.{ℕ, List, sym, subst}
 use Rattle.pddl_text.specs.declared.fault.TextFault.{TextFault}
 use Rattle.model_kit.specs.declared.model.Model.{Model}

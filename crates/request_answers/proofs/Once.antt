@@ -1,4 +1,4 @@
--- What contents are, they are once: two models and a plan, and then no text of them has a fault.
+-- Contents are texts of at most one pair of models and one plan, and then none of the texts has a fault.
 use Rattle.std.proofs.Common.{◌≡◌, ℕ, true, false, Bool, List, sym, ap, ◌∙◌, subst}
 use Rattle.pddl_text.specs.declared.fault.TextFault.{TextFault}
 use Rattle.pddl_text.proofs.ExactLemmas.{never_both, same_value}
@@ -22,7 +22,7 @@ no_fault : (domain other : Domain) (bytes : List ℕ) (model : Model) (fault : T
 no_fault domain other bytes model fault same one two = problems.not_both domain bytes model fault one (subst (λ d. IsProblemFault d bytes fault) (sym same) two)
 
 module _ (contents : List (List ℕ)) where
-  -- the two models are one pair
+  -- there is one pair of models
   pub models_once : (p u q v : Model) → AreModels contents p u → AreModels contents q v → (p ≡ q) × (u ≡ v)
   models_once p u q v one two =
       let pd = domains.one_domain (text_at contents 0) one.planner_domain two.planner_domain one.pd two.pd in
@@ -40,7 +40,7 @@ module _ (contents : List (List ℕ)) where
   never_misread p u fault _ are (user_problem domain other planner pd pp ud is) =
       no_fault are.user_domain other (text_at contents 3) u fault (domains.one_domain (text_at contents 2) are.user_domain other are.ud ud) are.up is
 
-  -- the plan is one
+  -- there is one plan
   pub steps_once : (asked : Bool) (p q : Model) (a b : List GroundAction) → p ≡ q → IsPlanIn asked contents p a → IsPlanIn asked contents q b → a ≡ b
   steps_once true p q a b same one two =
       let F : List GroundAction → Plan = λ steps. record { steps = steps } in

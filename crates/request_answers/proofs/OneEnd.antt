@@ -17,9 +17,9 @@ use Rattle.request_answers.specs.Texts.{has_plan}
 use Rattle.request_answers.specs.Questions.{IsFault, IsUndercut, IsUnserved, AreServed, AreServedWords, AreUnservedWords, of_words, of_differences, planner_domain, user_domain}
 use Rattle.request_answers.specs.Ends.{AtPlan, AtSearch, AtQuestion, IsPast, IsLarge, AreDiffering, AreJoined, AreRead, EndsAt, misread, read}
 use Rattle.request_answers.specs.Counts.{AreSmall}
+use Rattle.model_kit.proofs.OneDifferences.{same_differences}
+use Rattle.model_kit.proofs.SameParts.{paired_once}
 use Rattle.request_answers.proofs.Once.{models_once, steps_once, never_read}
-use Rattle.request_answers.proofs.SameLists.{same_differences}
-use Rattle.request_answers.proofs.SameModels.{paired_once}
 
 -- a valid plan has no fault
 not_both : (words : Vocabulary) (model : Meaning) (plan : List GroundAction) (fault : PlanFault) → IsValid model plan → IsFault words model plan fault → ⊥
@@ -36,7 +36,7 @@ plan_end_once planner plan k m One Two rest (inl one) (inr two) = absurd (not_bo
 plan_end_once planner plan k m One Two rest (inr one) (inl two) = absurd (not_both planner.words (meaning planner) plan two.1 one.0 two.2)
 plan_end_once planner plan k m One Two rest (inr one) (inr two) = rest one.1 two.1
 
--- words that are served aren't unserved
+-- served words aren't unserved
 served_words : (one two : Vocabulary) (file : ℕ) → AreServedWords one two → AreUnservedWords one two file → ⊥
 served_words one two _ are (planner_domain out) = true≢false (sym are.planner_domain ∙ out)
 served_words one two _ are (user_domain in_ out) = true≢false (sym are.user_domain ∙ out)
@@ -122,7 +122,7 @@ read_end_once request contents k m a b =
     both (inr x) (inl y) = absurd (y.1 x.paired.agree)
     both (inr x) (inr y) = joined_end_once request a.planner_read a.user_read a.plan k m x y
 
--- the contents end once
+-- the contents end with one status
 pub ends_once : (request : Request) (contents : List (List ℕ)) (k m : ℕ) → EndsAt request contents k → EndsAt request contents m → k ≡ m
 ends_once request contents k m (misread file fault is why) (misread other another too because) = is ∙ sym too
 ends_once request contents k m (misread file fault is why) (read b) =

@@ -32,7 +32,7 @@ joined_lines f g same [] = refl
 joined_lines f g same (n ∷ ns) = λ i. same n i ++ joined_lines f g same ns i
 
 module _ (planner user : Model) (differences : List Difference) (plan : List GroundAction) (says : All (Says (meaning planner) (meaning user)) differences) where
-  -- a numbered line tells what stands in the two models
+  -- a numbered line is that of the content in the two models
   line_same : (n : ℕ) → numbered_line planner.words differences n ≡ difference_line (even_task planner user differences plan) n
   line_same n =
       let F : Place → List ℕ = λ place. line (decimal n ++ codes " " ++ sentence planner.words (meaning planner place) (meaning user place) place) in
@@ -43,7 +43,7 @@ module _ (planner user : Model) (differences : List Difference) (plan : List Gro
       λ i. line (decimal n ++ codes " " ++ sentence planner.words (said.planner_has i) (said.user_has i) (place_of d)) in
       option_same (slice_get differences (n - 1)) F G at ∙ ap (λ o. option_map_or F o []) (sym (slice_get-map place_of differences (n - 1)))
 
-  -- the lines of the told differences and the plan's cost after them, one behind another
+  -- the lines of the told differences and the plan's cost after them, one after another
   pub lines_are : (told : set.FinSet nat_cmp) (price : ℕ) (lines : List (List ℕ))
       → lines ≡ lines_of Mce planner.words differences (numbers (length differences) told) price
       → price ≡ cost (patched (meaning planner) (meaning user) (places_of differences) told) plan

@@ -1,10 +1,11 @@
--- The joint vocabulary of two plain ones is plain, has few words, and has the ground actions of the planner's.
+-- The joint vocabulary of two plain vocabularies is plain and has few words, and the planner's ground actions fit it.
 use Rattle.std.proofs.Common.{◌≡◌, ℕ, ◌+◌, ◌≤◌, Bool, true, false, ◌&&◌, cond, List, [], ◌∷◌, ◌++◌, length, map, refl, ap, ◌∙◌, arith}
 use Rattle.std.specs.Prelude.{All, filter, not}
 use Rattle.std.specs.List.{list_all}
 use Rattle.std.proofs.lemmas.Bool.{and_parts, and_from}
 use Rattle.std.proofs.lemmas.List.{length-append, length-map}
 use Rattle.std.proofs.lemmas.List.Folds.{list_all-append}
+use Rattle.mre_base.proofs.Listed.{filter_few}
 use Rattle.model_kit.specs.declared.vocabulary.Vocabulary.{Vocabulary}
 use Rattle.model_kit.specs.declared.vocabulary.Signature.{Signature}
 use Rattle.model_kit.specs.declared.model.Model.{Model}
@@ -15,14 +16,7 @@ use Rattle.model_kit.specs.Pairs.{ArePaired, joined, is_named, type_in}
 use Rattle.model_kit.proofs.PairLemmas.{plan_ground}
 use Rattle.request_answers.specs.Questions.{AreReady}
 
--- a filter keeps at most all
-short_filter : {X : Type 0} (q : X → Bool) (xs : List X) → length (filter q xs) ≤ length xs
-short_filter q [] = omega arith
-short_filter q (x ∷ xs) =
-    let rest = short_filter q xs in
-    elim (q x) as (λ b. length (cond b (x ∷ filter q xs) (filter q xs)) ≤ length (x ∷ xs)) [ true ↦ omega arith | false ↦ omega arith ]
-
--- what is renamed and kept has no parameters either
+-- signatures without parameters have none after renaming and filtering
 kept_plain : (q : Signature → Bool) (type : ℕ → ℕ) (ys : List Signature) → list_all (λ s. has_none s.params) ys ≡ true
     → list_all (λ s. has_none s.params) (map (λ (s : Signature). let t : Signature = record { name = s.name; params = map type s.params } in t) (filter q ys)) ≡ true
 kept_plain q type [] plain = refl
@@ -54,7 +48,7 @@ module _ (planner user : Vocabulary) (part : Vocabulary → List Signature) wher
       let added = map (λ (s : Signature). let t : Signature = record { name = s.name; params = map (type_in user planner) s.params } in t) kept in
       let one : length (joined part planner user) ≡ length (part planner) + length added = length-append (part planner) added in
       let two : length added ≡ length kept = length-map kept (λ (s : Signature). let t : Signature = record { name = s.name; params = map (type_in user planner) s.params } in t) in
-      let three : length kept ≤ length (part user) = short_filter (λ s. not (is_named (part planner) s.name)) (part user) in
+      let three : length kept ≤ length (part user) = filter_few (λ s. not (is_named (part planner) s.name)) (part user) in
       omega arith
 
   joined_none : has_none (part planner) ≡ true → has_none (part user) ≡ true → has_none (joined part planner user) ≡ true

@@ -1,4 +1,4 @@
--- Why a plan isn't explained, by the step that stopped.
+-- Why a plan isn't explained, from the step that stopped.
 use Rattle.std.proofs.Common.{ℕ, List, Option}
 use Rattle.model_kit.specs.declared.model.Model.{Model}
 use Rattle.model_kit.specs.declared.action.GroundAction.{GroundAction}

@@ -16,7 +16,7 @@ use Rattle.feature_diff.specs.declared.difference.Difference.{Difference}
 use Rattle.explain_text.specs.Lines.{kind_name, sentence_of, numbered_line, list_lines, lines_of}
 use Rattle.request_answers.specs.Lines.{IsLine}
 
--- the number is that of a difference
+-- the number is that of one of this many differences
 abbrev IsOneOf : ℕ → ℕ → Type 0
 IsOneOf count n = n - 1 < count
 
@@ -51,7 +51,7 @@ module _ (words : Vocabulary) (differences : List Difference) where
       All-map IsLine (numbered_line words differences) ns (All-weaker (IsOneOf (length differences)) (λ n. IsLine (numbered_line words differences n)) numbered ns listed) in
       All-cons IsLine (line head) middle (head, refl) each
 
-  -- and those of an explanation
+  -- the lines of an explanation are whole
   pub whole_lines : (kind : Kind) (told : set.FinSet nat_cmp) (price : ℕ) → All IsLine (lines_of kind words differences (numbers (length differences) told) price)
   whole_lines kind told price =
       let ns = numbers (length differences) told in

@@ -1,4 +1,4 @@
--- Why a request about files with these contents isn't carried out.
+-- The cause of each stop: why a request about files with these contents has no answer.
 use Rattle.std.specs.Prelude.{ℕ, IsTrue, List, length}
 use Rattle.model_kit.specs.declared.model.Model.{Model}
 use Rattle.model_kit.specs.declared.action.GroundAction.{GroundAction}
@@ -45,8 +45,8 @@ pub record HavePast (request : Request) (contents : List (List ℕ))
   pub pose : Pose request contents planner user plan
   pub past : IsPast planner user plan
 
--- the contents ask a question about a plan, no count is past its limit, and something is wrong with
--- the plan in the planner's model
+-- the contents ask a question about a plan, no count is past its limit, and the plan has this fault
+-- in the planner's model
 pub record HaveFault (request : Request) (contents : List (List ℕ))
     (fault : PlanFault) : Type 0 where
   pub planner : Model
@@ -64,8 +64,8 @@ IsToExplain (Diff files) = ⊥
 IsToExplain (Patch files) = ⊥
 IsToExplain (PlanPatch files) = ⊥
 
--- the contents ask for an explanation, the plan is valid in the planner's model, and this file is
--- why none can be searched for yet
+-- the contents ask for an explanation, the plan is valid in the planner's model, and no explanation
+-- can be searched for yet because of this file
 pub record HaveUnserved (request : Request) (contents : List (List ℕ)) (file : ℕ) : Type 0 where
   pub planner : Model
   pub user : Model
@@ -91,7 +91,7 @@ pub record HaveCheaper (request : Request) (contents : List (List ℕ)) (cost ot
       (length differences)
   pub undercut : IsUndercut planner.words (meaning planner) plan cost other steps
 
--- the cause of a stop; want of memory needs none
+-- the contents are the cause of the stop; any contents can run out of memory
 abbrev pub IsDue : Request → List (List ℕ) → AnswerStop → Type 0
 IsDue request contents (Misread file fault) = IsMisread request contents fault file
 IsDue request contents (Disagree fault) = HaveDisagreement request contents fault

@@ -1,4 +1,4 @@
--- The counts that have limits: parameters, objects, differences and the plan's steps.
+-- The counts that have limits: parameters, objects, differences and the steps of the plan.
 use Rattle.std.specs.Prelude.{ℕ, ◌≡◌, ◌≤◌, ◌<◌, max, List, [], ◌∷◌, length}
 use Rattle.model_kit.specs.declared.vocabulary.Vocabulary.{Vocabulary}
 use Rattle.model_kit.specs.declared.vocabulary.Signature.{Signature}
@@ -7,12 +7,12 @@ use Rattle.model_kit.specs.declared.action.GroundAction.{GroundAction}
 use Rattle.feature_diff.specs.declared.difference.Difference.{Difference}
 use Rattle.feature_diff.specs.Differing.{AreDifferencesOf, AreTooMany}
 
--- the most parameters that one of these has
+-- the largest number of parameters of one of these
 abbrev pub most_of : List Signature → ℕ
 most_of [] = 0
 most_of (signature ∷ rest) = max (length signature.params) (most_of rest)
 
--- the most parameters of an action, a predicate or a function
+-- the largest number of parameters of an action, a predicate or a function
 abbrev pub most_parameters : Vocabulary → ℕ
 most_parameters words =
     max (most_of words.actions) (max (most_of words.predicates) (most_of words.functions))
@@ -30,23 +30,23 @@ pub record AreWithinLimits (planner user : Model) (plan : List GroundAction)
   pub few : length differences ≤ 256
   pub short : length plan ≤ 10000
 
--- the most parameters are so many, more than 8
+-- the largest number of parameters is this, and more than 8
 pub record AreTooManyParameters (words : Vocabulary) (found : ℕ) : Type 0 where
   pub counted : found ≡ most_parameters words
   pub many : 8 < found
 
--- there are so many objects, more than 1000, and at most 8 parameters
+-- the number of objects is this, and more than 1000; the parameters are within their limit
 pub record AreTooManyObjects (words : Vocabulary) (found : ℕ) : Type 0 where
   pub parameters : most_parameters words ≤ 8
   pub counted : found ≡ length words.objects
   pub many : 1000 < found
 
--- there are so many differences, more than 256, and the words are small
+-- the number of differences is this, and more than 256; parameters and objects are within limits
 pub record AreTooManyDifferences (planner user : Model) (found : ℕ) : Type 0 where
   pub small : AreSmall planner.words
   pub many : AreTooMany planner user found
 
--- there are so many steps, more than 10000, and no count before is past its limit
+-- the number of steps is this, and more than 10000; each count before is within its limit
 pub record AreTooManySteps (planner user : Model) (plan : List GroundAction)
     (found : ℕ) : Type 0 where
   pub small : AreSmall planner.words

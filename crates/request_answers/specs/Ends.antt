@@ -1,4 +1,4 @@
--- Which status the contents of a request's files end with, by what stands in them.
+-- The status with which a request about files with these contents ends.
 use Rattle.std.specs.Prelude.{ℕ, ◌≡◌, ◌⊎◌, ◌≤◌, ◌<◌, List, length}
 use Rattle.pddl_text.specs.declared.fault.TextFault.{TextFault}
 use Rattle.model_kit.specs.declared.vocabulary.Vocabulary.{Vocabulary}
@@ -17,8 +17,7 @@ use Rattle.request_answers.specs.Questions.{IsFault, IsUndercut, IsUnserved, Are
 
 -- ---- the plan
 
--- something is wrong with the plan in the planner's model; or it is valid there, and the rest
--- decides
+-- the plan has a fault in the planner's model; or it is valid there, and the rest decides
 abbrev pub AtPlan : Model → List GroundAction → ℕ → Type 0 → Type 0
 AtPlan planner plan status Rest =
     ((status ≡ 10) × (fault : PlanFault) × IsFault planner.words (meaning planner) plan fault)
@@ -33,7 +32,7 @@ AtSearch one two planner plan count status =
     × IsUndercut planner.words (meaning planner) plan costs other steps)
     ⊎ ((status ≡ 0) × IsCheapest planner.words (meaning planner) plan)))
 
--- what each request asks of a question whose counts are within their limits
+-- the end of each request once all counts are within their limits
 abbrev pub AtQuestion : Request → Vocabulary → Vocabulary → Model → List GroundAction → ℕ → ℕ
     → Type 0
 AtQuestion (Explain kind files) one two planner plan count status =
@@ -49,11 +48,11 @@ AtQuestion (PlanPatch files) one two planner plan count status =
 abbrev pub IsLarge : Vocabulary → Type 0
 IsLarge words = (8 < most_parameters words) ⊎ (1000 < length words.objects)
 
--- there are too many differences, of which this is the number, or steps
+-- there are too many differences, which are counted here, or too many steps
 abbrev pub IsPast : List GroundAction → ℕ → Type 0
 IsPast plan count = (256 < count) ⊎ (10000 < length plan)
 
--- the differences of two models, and what comes of them
+-- all differences of the two models: a count is past its limit, or the request decides
 pub record AreDiffering (request : Request) (one two : Vocabulary) (planner user : Model)
     (plan : List GroundAction) (status : ℕ) : Type 0 where
   pub places : List Place
@@ -64,15 +63,15 @@ pub record AreDiffering (request : Request) (one two : Vocabulary) (planner user
 
 -- ---- the pair and the texts
 
--- the two models side by side
+-- the two models in the numbers of their joint vocabulary
 pub record AreJoined (request : Request) (planner_read user_read : Model) (plan : List GroundAction)
     (status : ℕ) : Type 0 where
   pub planner : Model
   pub user : Model
   pub paired : ArePaired planner_read user_read planner.words planner user
   pub rest : ((status ≡ 7) × IsLarge planner.words)
-      ⊎ (AreSmall planner.words × AreDiffering request planner_read.words user_read.words planner
-      user plan status)
+      ⊎ (AreSmall planner.words
+      × AreDiffering request planner_read.words user_read.words planner user plan status)
 
 -- texts of two models and of a plan: the models don't agree, or they are joined
 pub record AreRead (request : Request) (contents : List (List ℕ)) (status : ℕ) : Type 0 where

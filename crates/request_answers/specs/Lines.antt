@@ -1,4 +1,4 @@
--- The status and the lines that tell why a request isn't carried out.
+-- The status and the printed lines of each stop.
 use Rattle.std.specs.Prelude.{◌≡◌, ◌<◌, ℕ, List, [], ◌∷◌, ◌++◌, map, codes, decimal, slice_index_or}
 use Rattle.pddl_text.specs.declared.fault.TextFault.{TextFault}
 use Rattle.pddl_text.specs.declared.fault.TextRule.{TextRule}
@@ -15,6 +15,7 @@ use Rattle.request_answers.specs.declared.stop.PlanFault.{PlanFault}
 use Rattle.request_answers.specs.declared.stop.PlanFault.TheVariants.{StepNeeds, StepHasNoCost}
 use Rattle.request_answers.specs.declared.stop.PlanFault.TheVariants.{EndsWithout}
 
+-- the status with which the program ends
 abbrev pub status_of : AnswerStop → ℕ
 status_of (Misread file fault) = 5
 status_of (Unbuilt file) = 5
@@ -31,15 +32,15 @@ status_of (NotCheapest cost other steps) = 11
 abbrev pub name_at : List (List ℕ) → ℕ → List ℕ
 name_at names file = slice_index_or names file []
 
--- a text and a line feed
+-- a text with its line feed
 abbrev pub line : List ℕ → List ℕ
 line text = text ++ 10 ∷ []
 
--- the bytes are a text and its line feed
+-- the bytes are a text with its line feed
 abbrev pub IsLine : List ℕ → Type 0
 IsLine bytes = (text : List ℕ) × (bytes ≡ line text)
 
--- the rules of texts by their names
+-- the printed name of a rule of texts
 abbrev pub rule_name : TextRule → List ℕ
 rule_name rule.Byte = codes "byte"
 rule_name rule.Close = codes "close"
@@ -55,19 +56,19 @@ rule_name rule.Undeclared = codes "undeclared"
 rule_name rule.WrongArity = codes "wrong-arity"
 rule_name rule.WrongType = codes "wrong-type"
 
--- a blank and the word, or nothing where there is none
-abbrev pub behind_rule : List ℕ → List ℕ
-behind_rule [] = []
-behind_rule (byte ∷ word) = codes " " ++ (byte ∷ word)
+-- a blank and the word, or nothing if there is no word
+abbrev pub after_rule : List ℕ → List ℕ
+after_rule [] = []
+after_rule (byte ∷ word) = codes " " ++ (byte ∷ word)
 
--- the line that tells a text's first fault: `mre: NAME:LINE:COLUMN: RULE WORD`
+-- the line of a text's first fault: `mre: NAME:LINE:COLUMN: RULE WORD`
 abbrev pub text_line : List ℕ → TextFault → List ℕ
 text_line name fault =
     codes "mre: " ++ (name ++ (codes ":"
     ++ (decimal fault.at.line ++ (codes ":" ++ (decimal fault.at.column
-    ++ (codes ": " ++ (rule_name fault.rule ++ line (behind_rule fault.word))))))))
+    ++ (codes ": " ++ (rule_name fault.rule ++ line (after_rule fault.word))))))))
 
--- the line that tells what is wrong with a plan
+-- the line of a plan's fault
 abbrev pub fault_line : PlanFault → List ℕ
 fault_line (StepNeeds step atom) =
     codes "mre: plan step " ++ (decimal step ++ (codes " needs " ++ line atom))
@@ -75,7 +76,7 @@ fault_line (StepHasNoCost step) =
     codes "mre: plan step " ++ (decimal step ++ line (codes " has no cost"))
 fault_line (EndsWithout atom) = codes "mre: plan ends without " ++ line atom
 
--- the first line that tells a stop, where the files have these names
+-- the first line of a stop, for files with these names
 abbrev pub line_of : List (List ℕ) → AnswerStop → List ℕ
 line_of names (Misread file fault) = text_line (name_at names file) fault
 line_of names (Unbuilt file) = codes "mre: " ++ (name_at names file ++ line (codes ":1:1: unbuilt"))
@@ -96,16 +97,16 @@ line_of names (NotCheapest cost other steps) =
     ++ (codes ", these lines cost " ++ (decimal other ++ line (codes ":"))))
 line_of names NoMemory = line (codes "mre: out of memory")
 
--- the further lines: one for each step of a cheaper list
+-- the lines after it: one for each step of a cheaper list
 abbrev pub further_lines : AnswerStop → List (List ℕ)
 further_lines (NotCheapest cost other steps) = map line steps
 further_lines _ = []
 
--- the lines that tell a stop
+-- all lines of a stop
 abbrev pub lines_of : List (List ℕ) → AnswerStop → List (List ℕ)
 lines_of names stop = line_of names stop ∷ further_lines stop
 
--- a stop that is about a file is about one of so many
+-- a file that the stop names is among this number of files
 abbrev pub IsOfFile : ℕ → AnswerStop → Type 0
 IsOfFile count (Misread file fault) = file < count
 IsOfFile count (Unbuilt file) = file < count

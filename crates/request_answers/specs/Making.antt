@@ -1,4 +1,4 @@
--- What is made of a question, by its models, its plan and its differences; and why nothing is.
+-- The answer to a question with its models, its plan and its differences, or why there isn't one.
 use Rattle.std.specs.Prelude.{ℕ, ◌≡◌, List, length}
 use Rattle.std.specs.Ordering.{nat_cmp}
 use Rattle.std.specs.FinSet as set
@@ -40,13 +40,13 @@ pub record IsList (request : Request) (question : Question) (differences : List 
   pub choice : IsChoice request question.pair.planner question.plan.steps differences chosen
   pub text_is : text ≡ listing request (task_in question differences) chosen
 
--- what each request makes of a question with these differences
+-- the answer of each request to a question with these differences
 abbrev pub IsMade : Request → Question → List Difference → set.FinSet nat_cmp → List ℕ → Type 0
 IsMade (Explain kind files) question differences told text =
     IsExplanation kind question differences told text
 IsMade request question differences told text = IsList request question differences told text
 
--- why nothing is made of it
+-- why a request has no answer to it
 abbrev pub IsOfMaking : Request → Question → ℕ → AnswerStop → Type 0
 IsOfMaking (Explain kind files) question count stop =
     IsOfExplaining question.pair.planner question.plan.steps question.unserved count stop
@@ -57,7 +57,7 @@ IsOfMaking (Patch files) question count stop =
 IsOfMaking (PlanPatch files) question count stop =
     IsOfPlan question.pair.planner.words (meaning question.pair.planner) question.plan.steps stop
 
--- what is made of a question that has no count past its limit
+-- the answer to a question, of which no count is past its limit
 pub record IsMadeOf (request : Request) (question : Question) (told : set.FinSet nat_cmp)
     (text : List ℕ) : Type 0 where
   pub differences : List Difference
@@ -65,7 +65,7 @@ pub record IsMadeOf (request : Request) (question : Question) (told : set.FinSet
       differences
   pub made : IsMade request question differences told text
 
--- why nothing is made of a question: a count is past its limit, or none is
+-- why a question has no answer: a count is past its limit, or none is and a later step stops
 pub data IsOfAnswering (request : Request) (question : Question) (stop : AnswerStop) : Type 0 where
   counted : IsOfCounts question.pair.planner question.pair.user question.plan.steps stop
       → IsOfAnswering request question stop

@@ -1,4 +1,4 @@
--- What is printed where a request is carried out: an explanation, or a list of differences.
+-- The answers: what a request prints, an explanation or a list of differences.
 use Rattle.std.specs.Prelude.{ℕ, ◌≡◌, List, ◌++◌, flat_map, length, codes, decimal}
 use Rattle.std.specs.Ordering.{nat_cmp}
 use Rattle.std.specs.FinSet as set
@@ -23,21 +23,20 @@ use Rattle.request_answers.specs.Questions.{AreCounted, AreServed}
 
 -- ---- explanations
 
--- the set is the first of its kind
+-- the set is the MCE, or the MME
 abbrev pub IsOfKind : Kind → Task → set.FinSet nat_cmp → Type 0
 IsOfKind Mce task told = IsMCE task told
 IsOfKind Mme task told = IsMME task told
 
--- an explanation is asked for as an MCE
+-- a request for an explanation is for an MCE
 abbrev pub AsksMce : Request → Type 0
 AsksMce (Explain kind files) = kind ≡ Mce
 AsksMce (Diff files) = Unit {0}
 AsksMce (Patch files) = Unit {0}
 AsksMce (PlanPatch files) = Unit {0}
 
--- the contents ask a question that a search serves, the plan is cheapest in the planner's model,
--- and the set is the first of the kind in
--- their task, in which each difference weighs 1
+-- the contents ask a question for which an explanation can be searched, the plan is cheapest in the
+-- planner's model, and the set is the first of its kind in the task where each difference weighs 1
 pub record IsExplained (request : Request) (contents : List (List ℕ)) (kind : Kind) (task : Task)
     (told : set.FinSet nat_cmp) : Type 0 where
   pub planner : Model
@@ -53,11 +52,11 @@ pub record IsExplained (request : Request) (contents : List (List ℕ)) (kind : 
 
 -- ---- lists of differences
 
--- the set has the numbers of all of so many differences, which count from 1
+-- the set has all numbers from 1 to a count
 abbrev pub AreAll : ℕ → set.FinSet nat_cmp → Type 0
 AreAll count chosen = chosen ≡ all_to count
 
--- what a request for a list asks of the plan, and which differences it lists
+-- what a request for a list demands of the plan, and which differences it lists
 abbrev pub IsChoice : Request → Model → List GroundAction → List Difference → set.FinSet nat_cmp
     → Type 0
 IsChoice (Diff files) planner plan differences chosen = AreAll (length differences) chosen
@@ -67,7 +66,7 @@ IsChoice (PlanPatch files) planner plan differences chosen =
     IsValid (meaning planner) plan × AreUsed plan (places_of differences) chosen
 IsChoice (Explain kind files) planner plan differences chosen = ⊥
 
--- the first line of a list of so many differences, out of all
+-- the first line of a list, with the number of chosen differences and of all
 abbrev pub list_head : Request → ℕ → ℕ → List ℕ
 list_head (Diff files) chosen all = codes "differences " ++ decimal all
 list_head (Patch files) chosen all =
@@ -76,7 +75,7 @@ list_head (PlanPatch files) chosen all =
     codes "plan-patch " ++ (decimal chosen ++ (codes " of " ++ decimal all))
 list_head (Explain kind files) chosen all = codes ""
 
--- the first line, and the line of each chosen difference, in ascending order
+-- the first line, and after it the line of each chosen difference in ascending order
 abbrev pub listing : Request → Task → set.FinSet nat_cmp → List ℕ
 listing request task chosen =
     line (list_head request (count_of chosen) (length task.places))
@@ -96,7 +95,7 @@ pub record IsListed (request : Request) (contents : List (List ℕ)) (chosen : s
 
 -- ---- each request
 
--- the text is what the request prints about these contents, and it tells the differences in the set
+-- the request prints the text about these contents, and the text has the differences in the set
 abbrev pub IsAnswer : Request → List (List ℕ) → set.FinSet nat_cmp → List ℕ → Type 0
 IsAnswer (Explain kind files) contents told text =
     (task : Task) × IsExplained (Explain kind files) contents kind task told

@@ -1,5 +1,5 @@
--- What is known of a question that contents ask: its models and plan, and whether an explanation of
--- it can be searched for.
+-- The question of the program and the question that the contents ask: its models and plan, and
+-- whether an explanation can be searched for.
 use Rattle.std.specs.Prelude.{ℕ, ◌≡◌, List, [], All, IfSome, IfNone}
 use Rattle.model_kit.specs.Vocabulary.{IsGroundAction}
 use Rattle.model_kit.specs.Pairs.{ArePaired}
@@ -9,7 +9,7 @@ use Rattle.request_answers.specs.declared.question.Texts.{Texts}
 use Rattle.request_answers.specs.Texts.{AreModels, IsPlanIn, has_plan}
 use Rattle.request_answers.specs.Questions.{Pose, AreReady, AreServedWords, AreUnservedWords}
 
--- the contents are texts of these models and this plan
+-- the contents are texts of these models and this plan, which fits the planner's model
 pub record AreTexts (request : Request) (contents : List (List ℕ)) (texts : Texts) : Type 0 where
   pub models : AreModels contents texts.models.planner texts.models.user
   pub planned : IsPlanIn (has_plan request) contents texts.models.planner texts.plan.steps
@@ -17,7 +17,7 @@ pub record AreTexts (request : Request) (contents : List (List ℕ)) (texts : Te
   pub planner_whole : texts.models.planner.unknown ≡ []
   pub user_whole : texts.models.user.unknown ≡ []
 
--- the question has the models side by side and the plan, and says whether their words are served
+-- the question is of these models and this plan, and says whether their words are served
 pub record IsJoined (texts : Texts) (question : Question) : Type 0 where
   pub paired : ArePaired texts.models.planner texts.models.user question.pair.planner.words
       question.pair.planner question.pair.user
@@ -27,7 +27,7 @@ pub record IsJoined (texts : Texts) (question : Question) : Type 0 where
   pub unserved : IfSome question.unserved
       (AreUnservedWords texts.models.planner.words texts.models.user.words)
 
--- the question is that of the contents, and it says whether its words are served
+-- the contents ask this question, and it says whether their words are served
 pub record IsQuestion (request : Request) (contents : List (List ℕ))
     (question : Question) : Type 0 where
   pub pose : Pose request contents question.pair.planner question.pair.user question.plan.steps

@@ -1,5 +1,5 @@
--- What the contents of a request's files ask: two models side by side and a plan; and what may be
--- said of these on the way to an answer.
+-- The question that the contents of a request's files ask: two models in the numbers of one
+-- vocabulary, and a plan. And what decides whether it has an answer.
 use Rattle.std.specs.Prelude.{ℕ, ◌≡◌, ◌≤◌, ◌<◌, ◌&&◌, Bool, false, IsTrue, List, length, map, All}
 use Rattle.std.specs.Prelude.{nat_le}
 use Rattle.model_kit.specs.declared.vocabulary.Vocabulary.{Vocabulary}
@@ -22,8 +22,8 @@ use Rattle.request_answers.specs.declared.stop.PlanFault.TheVariants.{EndsWithou
 use Rattle.request_answers.specs.Texts.{AreModels, IsPlanIn, has_plan}
 use Rattle.request_answers.specs.Counts.{AreWithinLimits}
 
--- the contents are texts of two models that agree, which are these in the numbers of their joint
--- vocabulary, and of this plan
+-- the contents are texts of two models that agree and of this plan, and these are the models in the
+-- numbers of their joint vocabulary
 pub record Pose (request : Request) (contents : List (List ℕ)) (planner user : Model)
     (plan : List GroundAction) : Type 0 where
   pub planner_read : Model
@@ -32,15 +32,14 @@ pub record Pose (request : Request) (contents : List (List ℕ)) (planner user :
   pub planned : IsPlanIn (has_plan request) contents planner_read plan
   pub paired : ArePaired planner_read user_read planner.words planner user
 
--- the same, these are all differences of the two, and no count is past its limit
+-- the contents ask this question, these are all its differences, and no count is past its limit
 pub record AreCounted (request : Request) (contents : List (List ℕ)) (planner user : Model)
     (plan : List GroundAction) (differences : List Difference) : Type 0 where
   pub pose : Pose request contents planner user plan
   pub limits : AreWithinLimits planner user plan differences
 
--- what is said of a plan that isn't valid: the first step that doesn't apply with the printed atom
--- that it lacks, or without a cost,
--- or the first goal fact that is missing
+-- the fault of a plan that isn't valid: the first step that doesn't apply, because it lacks the
+-- printed atom or has no cost; or the first goal fact that is missing at the end
 abbrev pub IsFault : Vocabulary → Meaning → List GroundAction → PlanFault → Type 0
 IsFault words model plan (StepNeeds step text) =
     (atom : GroundAtom) × Judges words model plan (Fails step atom) × (text ≡ atom_form words atom)
@@ -61,8 +60,8 @@ pub record IsUndercut (words : Vocabulary) (model : Meaning) (plan : List Ground
   pub other_is : other ≡ cost model list
   pub less : other < costs
 
--- a search serves these words: no predicate and no action has parameters, at most 64 of each, and
--- no cost is a function's value
+-- a search serves these words: no predicate and no action has parameters, there are at most 64 of
+-- each, and there are no functions
 abbrev pub is_served : Vocabulary → Bool
 is_served words =
     is_plain words && (nat_le (length words.predicates) 64 && nat_le (length words.actions) 64)
@@ -78,16 +77,14 @@ pub record AreServedWords (planner user : Vocabulary) : Type 0 where
   pub planner_domain : IsTrue (is_served planner)
   pub user_domain : IsTrue (is_served user)
 
--- which file no explanation can be searched for yet: the first domain whose words aren't served,
--- and else the plan, where there are
--- more than 16 differences
+-- the file because of which no explanation can be searched for yet: the first domain whose words
+-- aren't served, or the plan if there are more than 16 differences
 pub data IsUnserved (planner user : Vocabulary) (count file : ℕ) : Type 0 where
   of_words : AreUnservedWords planner user file → IsUnserved planner user count file
   of_differences : AreServedWords planner user → 16 < count → file ≡ 4
       → IsUnserved planner user count file
 
--- an explanation can be searched for: the words are served, and every set of at most 16 differences
--- is tried
+-- an explanation can be searched for: the words are served, and there are at most 16 differences
 pub record AreServed (planner user : Vocabulary) (count : ℕ) : Type 0 where
   pub words : AreServedWords planner user
   pub few : count ≤ 16

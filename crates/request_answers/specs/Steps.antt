@@ -1,4 +1,4 @@
--- Why a step on the way from the contents to an answer stops. Every step may find no memory.
+-- Why a step on the way from the contents to an answer stops. Most steps can run out of memory.
 use Rattle.std.specs.Prelude.{ℕ, ◌≡◌, ◌⊎◌, ◌≤◌, ◌<◌, List, Option, None, Some}
 use Rattle.pddl_text.specs.declared.fault.TextFault.{TextFault}
 use Rattle.model_kit.specs.declared.vocabulary.Vocabulary.{Vocabulary}
@@ -23,7 +23,7 @@ use Rattle.request_answers.specs.Causes.{HaveDisagreement}
 use Rattle.joint_models.specs.Disagreements.{IsFirstDisagreement}
 use Rattle.model_kit.specs.Pairs.{Agree}
 
--- a text at a place has a fault of which this holds
+-- the text at a place has a fault with this property
 abbrev pub IsOfText : ℕ → (TextFault → Type 0) → AnswerStop → Type 0
 IsOfText place IsFaultOf (Misread file fault) = (file ≡ place) × IsFaultOf fault
 IsOfText place IsFaultOf NoMemory = Unit {0}
@@ -49,7 +49,7 @@ IsOfPairing planner user (Disagree fault) =
 IsOfPairing planner user NoMemory = Unit {0}
 IsOfPairing planner user _ = ⊥
 
--- a content has a fault, or the models don't agree
+-- a text has a fault, or the models don't agree
 abbrev pub IsOfQuestion : Request → List (List ℕ) → AnswerStop → Type 0
 IsOfQuestion request contents (Misread file fault) = IsMisread request contents fault file
 IsOfQuestion request contents (Disagree fault) = HaveDisagreement request contents fault
@@ -84,12 +84,11 @@ IsOfCost words model plan (NotCheapest cost other steps) =
 IsOfCost words model plan NoMemory = Unit {0}
 IsOfCost words model plan _ = ⊥
 
--- the words are served and the differences few enough to try every set, where this is the first
--- domain whose words aren't
+-- no domain is named as unserved, and the differences are few enough to try every set
 abbrev pub IsServedBy : Option ℕ → ℕ → Type 0
 IsServedBy unserved count = (unserved ≡ None) × (count ≤ 16)
 
--- what isn't served: that domain, and else the plan's many differences
+-- the file that is named: the unserved domain, or the plan if there are too many differences
 abbrev pub IsUnservedBy : Option ℕ → ℕ → ℕ → Type 0
 IsUnservedBy unserved count file =
     (unserved ≡ Some file) ⊎ ((unserved ≡ None) × (16 < count) × (file ≡ 4))
@@ -99,7 +98,7 @@ abbrev pub IsOfService : Option ℕ → ℕ → AnswerStop → Type 0
 IsOfService unserved count (Unbuilt file) = IsUnservedBy unserved count file
 IsOfService unserved count _ = ⊥
 
--- a plan isn't explained: it isn't valid, or no explanation can be searched for, or it isn't
+-- why a plan isn't explained: it isn't valid, no explanation can be searched for, or it isn't
 -- cheapest
 abbrev pub IsOfExplaining : Model → List GroundAction → Option ℕ → ℕ → AnswerStop → Type 0
 IsOfExplaining planner plan unserved count (NotValid fault) =

@@ -1,5 +1,5 @@
--- What the contents of a request's files are: the texts of two models and of a plan, or the first
--- text that has a fault.
+-- What the contents of a request's files are: the texts of two models and of a plan; or the first
+-- ill-formed text, with its first fault.
 use Rattle.std.specs.Prelude.{ℕ, ◌≡◌, ◌≤◌, Bool, true, false, IsTrue, List, [], length, All}
 use Rattle.std.specs.Prelude.{slice_index_or}
 use Rattle.pddl_text.specs.declared.fault.TextFault.{TextFault}
@@ -18,23 +18,22 @@ use Rattle.mre_words.specs.declared.request.Request.TheVariants.{Explain, Diff, 
 abbrev pub text_at : List (List ℕ) → ℕ → List ℕ
 text_at contents place = slice_index_or contents place []
 
--- how many bytes a file may have
+-- the largest number of bytes of a file
 abbrev pub file_limit : ℕ
 file_limit = 4194304
 
--- no content has more bytes than a file may have
+-- each content is within the limit of a file
 abbrev pub AreShort : List (List ℕ) → Type 0
 AreShort contents = All (λ bytes. length bytes ≤ file_limit) contents
 
--- each request but that for all differences has a plan
+-- whether a request has a plan: each has one except the list of all differences
 abbrev pub has_plan : Request → Bool
 has_plan (Explain kind files) = true
 has_plan (Diff files) = false
 has_plan (Patch files) = true
 has_plan (PlanPatch files) = true
 
--- the first four contents are texts of two domains and of a problem of each, and these are the
--- models of both
+-- the first four contents are texts of two domains, each with a problem, and these are their models
 pub record AreModels (contents : List (List ℕ)) (planner user : Model) : Type 0 where
   pub planner_domain : Domain
   pub user_domain : Domain
@@ -48,13 +47,12 @@ abbrev pub IsTextOfPlan : Vocabulary → List ℕ → List GroundAction → Type
 IsTextOfPlan words bytes steps =
     IsPlanText words bytes (let plan : Plan = record { steps = steps } in plan)
 
--- the plan of a request, read in the planner's vocabulary; a request without one has the empty plan
+-- the plan of a request, in the planner's vocabulary; a request without a plan has the empty plan
 abbrev pub IsPlanIn : Bool → List (List ℕ) → Model → List GroundAction → Type 0
 IsPlanIn true contents planner steps = IsTextOfPlan planner.words (text_at contents 4) steps
 IsPlanIn false contents planner steps = steps ≡ []
 
--- the first text of a model that has a fault stands at this place, each before it is a text, and
--- this is its first fault
+-- the texts of the models before this place are well-formed, and the one here has this first fault
 pub data IsMisreadModel (contents : List (List ℕ)) (fault : TextFault) : ℕ → Type 0 where
   planner_domain : IsDomainFault (text_at contents 0) fault → IsMisreadModel contents fault 0
   planner_problem : (domain : Domain)
@@ -73,15 +71,14 @@ pub data IsMisreadModel (contents : List (List ℕ)) (fault : TextFault) : ℕ �
       → IsProblemFault other (text_at contents 3) fault
       → IsMisreadModel contents fault 3
 
--- the plan of the request is asked for, and this is the first fault of its text
+-- the request has a plan, and this is the first fault of its text
 pub record IsMisreadPlan (request : Request) (contents : List (List ℕ)) (planner : Model)
     (fault : TextFault) (file : ℕ) : Type 0 where
   pub asked : IsTrue (has_plan request)
   pub here : file ≡ 4
   pub fault_is : IsFirstFault planner.words (text_at contents 4) fault
 
--- the first content that is outside its grammar stands at this place, each before it is a text, and
--- this is its first fault
+-- the contents before this place are well-formed texts, and the one here has this first fault
 pub data IsMisread (request : Request) (contents : List (List ℕ)) (fault : TextFault)
     (file : ℕ) : Type 0 where
   of_model : IsMisreadModel contents fault file → IsMisread request contents fault file

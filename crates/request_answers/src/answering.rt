@@ -1,3 +1,5 @@
+//! The answer to a request about the contents of its files.
+
 ghost use Rattle.std.specs.Prelude.{◌≡◌, length, map, All, IfOk, IfErr, IfNone, OnOk};
 ghost use Rattle.std.specs.List.{concat};
 ghost use Rattle.model_kit.specs.Vocabulary.{IsGroundAction};
@@ -27,18 +29,17 @@ use mre_words::Request;
 use plan_uses::plan_uses;
 use std::alloc::Global;
 
-/// What is printed where a request is carried out, and the differences that it tells.
+/// An answer: its printed lines, and the differences in them.
 #[derive(Debug, Drop)]
 pub struct Made {
-    /// The told differences of an explanation, or the chosen ones of a list.
+    /// The told differences of an explanation, or the chosen differences of a list.
     pub told: Places,
     /// The lines, each with its line feed.
     pub lines: List<Text>,
 }
 
-/// The answer to a request about files with these contents, which stand in the order of its names;
-/// or why there is none. An
-/// explanation is asked for as an MCE.
+/// The answer to a request about files with these contents, which are in the order of its names, or
+/// why there isn't one. A request for an explanation is for an MCE.
 pub fn answer_texts(
     alloc: Global,
     request: &Request,
@@ -53,13 +54,11 @@ pub fn answer_texts(
     ensures err { IfErr result (IsDue request.now (map (λ bytes. bytes.items) contents.now)) }
     ensures of_file { IfErr result (IsOfFile (count_of request.now)) }
 {
-    match read_question(alloc, request, contents) {
-        Ok(question) => answer_question(alloc, request, &question),
-        Err(stop) => Err(stop),
-    }
+    let question = read_question(alloc, request, contents)?;
+    answer_question(alloc, request, &question)
 }
 
-// What the request makes of the question.
+// The answer to a question.
 fn answer_question(
     alloc: Global,
     request: &Request,
@@ -74,13 +73,11 @@ fn answer_question(
     ensures whole { IfOk result (λ made. All IsLine made.lines) }
     ensures err { IfErr result (IsOfAnswering request.now question.now) }
 {
-    match count(alloc, &question.pair, &question.plan) {
-        Ok(differences) => answer_counted(alloc, request, question, &differences),
-        Err(stop) => Err(stop),
-    }
+    let differences = count(alloc, &question.pair, &question.plan)?;
+    answer_counted(alloc, request, question, &differences)
 }
 
-// The same, where no count is past its limit.
+// The answer to a question with these differences, of which no count is past its limit.
 fn answer_counted(
     alloc: Global,
     request: &Request,
@@ -115,7 +112,7 @@ fn answer_counted(
     }
 }
 
-// The list of the chosen differences, where the plan is valid in the planner's model.
+// The list of the chosen differences, if the plan is valid in the planner's model.
 fn list_valid(
     alloc: Global,
     request: &Request,
@@ -136,8 +133,6 @@ fn list_valid(
         (meaning question.now.pair.planner)
         question.now.plan.steps) }
 {
-    match judge(alloc, question.pair.planner(), &question.plan) {
-        Ok(_) => Ok(list(alloc, request, question, differences, chosen)?),
-        Err(stop) => Err(stop),
-    }
+    judge(alloc, question.pair.planner(), &question.plan)?;
+    Ok(list(alloc, request, question, differences, chosen)?)
 }

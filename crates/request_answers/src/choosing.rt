@@ -1,3 +1,5 @@
+//! The set of all differences.
+
 ghost use Rattle.std.specs.Prelude.{◌≤◌};
 ghost use Rattle.request_answers.specs.Outputs.{AreAll};
 

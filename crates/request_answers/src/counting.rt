@@ -1,3 +1,5 @@
+//! The counts of a question, against their limits.
+
 ghost use Rattle.std.specs.Prelude.{◌≡◌, max, IfOk, IfErr, OnOk};
 ghost use Rattle.request_answers.specs.Counts.{AreWithinLimits, AreSmall, most_of as most_in};
 ghost use Rattle.request_answers.specs.Counts.{most_parameters as most_in_words};
@@ -9,25 +11,22 @@ use model_kit::{Plan, Signature, Vocabulary};
 use mre_base::List;
 use std::alloc::Global;
 
-/// The parameters that an action, a predicate or a function may have.
+/// The largest number of parameters of an action, a predicate or a function.
 const PARAMETER_LIMIT: usize = 8;
 
-/// The constants and objects that there may be.
+/// The largest number of constants and objects.
 const OBJECT_LIMIT: usize = 1000;
 
-/// The steps that a plan may have.
+/// The largest number of steps of a plan.
 const STEP_LIMIT: usize = 10_000;
 
-/// All differences of the pair, where no count is past its limit. The counts go in the order of
-/// their limits above, the differences
-/// before the plan's steps.
+/// All differences of the pair, if no count is past its limit. The order of the counts: parameters,
+/// objects, differences, steps.
 pub fn count(alloc: Global, pair: &Pair, plan: &Plan) -> Result<List<Difference>, AnswerStop>
     ensures ok { IfOk result (AreWithinLimits pair.now.planner pair.now.user plan.now.steps) }
     ensures err { IfErr result (IsOfCounts pair.now.planner pair.now.user plan.now.steps) }
 {
-    if let Err(stop) = measure(pair.words()) {
-        return Err(stop);
-    }
+    measure(pair.words())?;
     match pair.differences(alloc) {
         Ok(differences) => {
             let found = plan.steps.len();
@@ -43,7 +42,7 @@ pub fn count(alloc: Global, pair: &Pair, plan: &Plan) -> Result<List<Difference>
     }
 }
 
-// Whether the words have few enough parameters and objects.
+// Passes if the parameters and the objects are within their limits.
 fn measure(words: &Vocabulary) -> Result<(), AnswerStop>
     ensures ok { OnOk result (AreSmall words.now) }
     ensures err { IfErr result (IsOfWords words.now) }
@@ -59,7 +58,7 @@ fn measure(words: &Vocabulary) -> Result<(), AnswerStop>
     Ok(())
 }
 
-// The most parameters of an action, a predicate or a function.
+// The largest number of parameters of an action, a predicate or a function.
 fn most_parameters(words: &Vocabulary) -> usize
     ensures { result ≡ most_in_words words.now }
 {
@@ -67,7 +66,7 @@ fn most_parameters(words: &Vocabulary) -> usize
     larger(most_of(&words.actions), most)
 }
 
-// The most parameters of one of these.
+// The largest number of parameters of one of these.
 fn most_of(signatures: &List<Signature>) -> usize
     ensures { result ≡ most_in signatures.now }
 {

@@ -1,3 +1,5 @@
+//! The explanation of a question's plan.
+
 ghost use Rattle.std.specs.Prelude.{◌≡◌, ◌≤◌, length, All, IfOk, IfErr, IfNone, OnOk, codes};
 ghost use Rattle.std.specs.List.{concat};
 ghost use Rattle.model_kit.specs.Vocabulary.{IsGroundAction};
@@ -22,12 +24,11 @@ use mre_base::{Kind, List, NoMemory};
 use plain_program::first_complete;
 use std::alloc::Global;
 
-/// The differences of which every set can be tried.
+/// The largest number of differences of which every set is tried.
 const MOST_TRIED: usize = 16;
 
-/// The MCE of a question with these differences, and its lines; or what is wrong with the plan in
-/// the planner's model, what can't be
-/// served yet, or a cheaper list.
+/// The MCE of a question with these differences, and its lines; or the plan's fault in the
+/// planner's model, the file that can't be served yet, or a cheaper list.
 pub fn explain(
     alloc: Global,
     question: &Question,
@@ -53,21 +54,14 @@ pub fn explain(
         question.now.unserved (length differences.now)) }
 {
     let planner = question.pair.planner();
-    let cost = match judge(alloc, planner, &question.plan) {
-        Ok(cost) => cost,
-        Err(stop) => return Err(stop),
-    };
-    if let Err(stop) = serve(question.unserved, differences.len()) {
-        return Err(stop);
-    }
-    match refuse_cheaper(alloc, planner, &question.plan, cost) {
-        Ok(()) => Ok(first(alloc, question, differences)?),
-        Err(stop) => Err(stop),
-    }
+    let cost = judge(alloc, planner, &question.plan)?;
+    serve(question.unserved, differences.len())?;
+    refuse_cheaper(alloc, planner, &question.plan, cost)?;
+    Ok(first(alloc, question, differences)?)
 }
 
-// Whether an explanation can be searched for, where this is the first domain whose words no search
-// serves.
+// Passes if an explanation can be searched for. The first domain whose words no search serves is
+// given, if there is one.
 fn serve(unserved: Option<usize>, count: usize) -> Result<(), AnswerStop>
     ensures ok { OnOk result (IsServedBy unserved count) }
     ensures err { IfErr result (IsOfService unserved count) }
@@ -81,7 +75,7 @@ fn serve(unserved: Option<usize>, count: usize) -> Result<(), AnswerStop>
     Ok(())
 }
 
-// The first complete set of the differences, and the lines that tell it.
+// The first complete set of the differences, and the lines of its explanation.
 fn first(
     alloc: Global,
     question: &Question,

@@ -1,3 +1,5 @@
+//! Whether a question's plan is valid and cheapest in the planner's model.
+
 ghost use Rattle.std.specs.Prelude.{◌≡◌, ◌≤◌, length, map, All, IfOk, IfErr, OnOk};
 ghost use Rattle.model_kit.specs.Vocabulary.{IsGroundAction};
 ghost use Rattle.model_kit.specs.Printed.{action_form};
@@ -14,7 +16,7 @@ use mre_base::{List, NoMemory, Text};
 use plain_program::cheaper_list;
 use std::alloc::Global;
 
-/// What the plan costs in the model, where it is valid there.
+/// What the plan costs in the model, if it is valid there.
 pub fn judge(alloc: Global, model: &Model, plan: &Plan) -> Result<u64, AnswerStop>
     requires fits { All (IsGroundAction model.now.words) plan.now.steps }
     requires short { length plan.now.steps ≤ 10000 }
@@ -38,7 +40,7 @@ pub fn judge(alloc: Global, model: &Model, plan: &Plan) -> Result<u64, AnswerSto
     }
 }
 
-/// Whether a plan that is valid in the model at this cost is cheapest there.
+/// Passes if a plan that is valid in the model, at this cost, is cheapest there.
 pub fn refuse_cheaper(
     alloc: Global,
     model: &Model,

@@ -1,4 +1,4 @@
-//! What a request makes of the contents of its files: the lines of an answer, or why there is none.
+//! The answer to a request about the contents of its files, or why there isn't one.
 #![tactic(auto)]
 
 mod answering;
@@ -15,5 +15,5 @@ mod telling;
 mod texts;
 
 pub use answering::{Made, answer_texts};
-pub use laws::law_ends;
+pub use laws::{law_each_ends, law_ends};
 pub use stop::{AnswerStop, PlanFault};

@@ -1,3 +1,5 @@
+//! The printed list of chosen differences.
+
 ghost use Rattle.std.specs.Prelude.{◌≡◌, ◌≤◌, length, All, IfOk};
 ghost use Rattle.request_answers.specs.Lines.{IsLine};
 ghost use Rattle.std.specs.List.{concat};
@@ -27,7 +29,8 @@ pub fn list(
     requires few { length differences.now ≤ 256 }
     ensures told { IfOk result (λ made. made.told ≡ chosen) }
     ensures lines { IfOk result (λ made. concat made.lines ≡ listing request.now
-        (even_task question.now.pair.planner question.now.pair.user differences.now question.now.plan.steps) chosen) }
+        (even_task question.now.pair.planner question.now.pair.user differences.now
+        question.now.plan.steps) chosen) }
     ensures whole { IfOk result (λ made. All IsLine made.lines) }
 {
     let head = head_of(alloc, request, chosen.count(), differences.len())?;
@@ -44,7 +47,7 @@ pub fn list(
     })
 }
 
-// The first line of a list of so many differences, out of all.
+// The first line of a list, with the number of chosen differences and of all.
 fn head_of(alloc: Global, request: &Request, chosen: u32, all: usize) -> Result<String, NoMemory>
     ensures { IfOk result (λ text. string_bytes text ≡ list_head request.now chosen all) }
 {

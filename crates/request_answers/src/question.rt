@@ -1,3 +1,5 @@
+//! The question that the contents of a request's files ask.
+
 ghost use Rattle.std.specs.Prelude.{◌≡◌, ◌<◌, ◌^◌, [], length, map, IfOk, IfErr};
 ghost use Rattle.mre_words.specs.Requests.{count_of};
 ghost use Rattle.pddl_read.specs.Texts.{AreFew};
@@ -14,27 +16,27 @@ use mre_base::List;
 use mre_words::Request;
 use std::alloc::Global;
 
-/// What the contents of a request's files ask.
+/// The question that the contents of a request's files ask.
 #[derive(Debug, Drop)]
 pub struct Question {
     /// The two models in the numbers of their joint vocabulary.
     pub pair: Pair,
-    /// The plan, in the same numbers; a request without one has the empty plan.
+    /// The plan, in the same numbers; a request without a plan has the empty plan.
     pub plan: Plan,
     /// The place of the first domain whose words no search serves yet, counted from 0 among the
     /// contents.
     pub unserved: Option<usize>,
 }
 
-/// The two models and the plan that texts are of.
+/// The two models and the plan of the texts.
 #[derive(Debug, Drop)]
 pub struct Texts {
     pub models: Models,
     pub plan: Plan,
 }
 
-/// The question of the contents: the planner's domain and problem, the user's, and the plan where
-/// the request has one.
+/// The question of the contents: the planner's domain and problem, the user's domain and problem,
+/// and the plan if the request has one.
 pub fn read_question(
     alloc: Global,
     request: &Request,
@@ -46,10 +48,8 @@ pub fn read_question(
     ensures err { IfErr result (IsOfQuestion request.now
         (map (λ bytes. bytes.items) contents.now)) }
 {
-    match read_texts(alloc, request, contents) {
-        Ok(texts) => join_texts(alloc, texts),
-        Err(stop) => Err(stop),
-    }
+    let texts = read_texts(alloc, request, contents)?;
+    join_texts(alloc, texts)
 }
 
 // The models and the plan.
@@ -64,13 +64,11 @@ fn read_texts(
     ensures err { IfErr result (IsOfQuestion request.now
         (map (λ bytes. bytes.items) contents.now)) }
 {
-    match read_models(alloc, contents) {
-        Ok(models) => with_plan(alloc, request, contents, models),
-        Err(stop) => Err(stop),
-    }
+    let models = read_models(alloc, contents)?;
+    with_plan(alloc, request, contents, models)
 }
 
-// The models with the plan.
+// The models and the plan, whose text is still to be read.
 fn with_plan(
     alloc: Global,
     request: &Request,
@@ -88,13 +86,11 @@ fn with_plan(
     ensures err { IfErr result (IsOfPlanText request.now (map (λ bytes. bytes.items) contents.now)
         models.planner) }
 {
-    match read_steps(alloc, request, contents, &models.planner) {
-        Ok(plan) => Ok(Texts { models, plan }),
-        Err(stop) => Err(stop),
-    }
+    let plan = read_steps(alloc, request, contents, &models.planner)?;
+    Ok(Texts { models, plan })
 }
 
-// The texts as a question.
+// The question of the models and the plan.
 fn join_texts(alloc: Global, texts: Texts) -> Result<Question, AnswerStop>
     requires planner_whole { texts.models.planner.unknown ≡ [] }
     requires user_whole { texts.models.user.unknown ≡ [] }

@@ -1,3 +1,5 @@
+//! Which words a search serves.
+
 ghost use Rattle.std.specs.Prelude.{◌≡◌, IfSome, IfNone};
 ghost use Rattle.std.specs.List.{list_all};
 ghost use Rattle.model_kit.specs.Plain.{has_none, is_plain as is_plain_in};
@@ -7,7 +9,7 @@ ghost use Rattle.request_answers.specs.Questions.{AreUnservedWords};
 use model_kit::{Signature, Vocabulary};
 use mre_base::List;
 
-/// How many predicates, and how many actions, a search serves.
+/// The largest number of predicates, and of actions, that a search serves.
 const MOST_SERVED: usize = 64;
 
 /// The place of the first domain whose words no search serves yet, counted from 0 among the
@@ -32,7 +34,7 @@ fn is_served(words: &Vocabulary) -> bool
     is_plain(words) && words.predicates.len() <= MOST_SERVED && words.actions.len() <= MOST_SERVED
 }
 
-// Whether no predicate and no action has parameters, and no cost is a function's value.
+// Whether no predicate and no action has parameters, and there are no functions.
 fn is_plain(words: &Vocabulary) -> bool
     ensures { result ≡ is_plain_in words.now }
 {

@@ -1,3 +1,5 @@
+//! Why a request has no answer.
+
 ghost use Rattle.std.specs.Prelude.{◌≡◌};
 ghost use Rattle.request_answers.specs.Lines.{status_of};
 
@@ -5,13 +7,12 @@ use joint_models::PairFault;
 use mre_base::{List, NoMemory, Text};
 use pddl_text::TextFault;
 
-/// Why a request isn't carried out. A `file` is the place of a content among those of the request,
-/// counted from 0. Of two
-/// causes the one that stands first here is told.
+/// Why a request has no answer. A `file` is the place of a content among those of the request,
+/// counted from 0. If several causes apply, the first in this order is reported.
 #[derive(Debug, Drop)]
 pub enum AnswerStop {
-    /// The content isn't in its grammar; this is its first fault, and each content before it is a
-    /// text.
+    /// The content is an ill-formed text with this first fault, and the contents before it are
+    /// well-formed texts.
     Misread {
         file: usize,
         fault: TextFault,
@@ -40,8 +41,8 @@ pub enum AnswerStop {
     Unbuilt {
         file: usize,
     },
-    /// In the planner's model these printed steps, one after another, are valid and cost `other`,
-    /// which is less than the plan's cost.
+    /// In the planner's model the list of these printed steps is valid and costs `other`, which is
+    /// less than the plan's cost.
     NotCheapest {
         cost: u64,
         other: u64,

@@ -1,3 +1,5 @@
+//! The printed lines of a stop.
+
 ghost use Rattle.std.specs.Prelude.{◌≡◌, ◌<◌, ◌++◌, length, map, IfOk, OnOk};
 ghost use Rattle.std.specs.String.{string_bytes};
 ghost use Rattle.request_answers.specs.Lines.{name_at, line, line_of, lines_of, fault_line};
@@ -9,7 +11,7 @@ use pddl_text::{TextFault, TextRule};
 use std::alloc::Global;
 
 impl AnswerStop {
-    /// The lines that tell it, each with its line feed, where the request's files have these names.
+    /// The lines of the stop, each with its line feed, for files with these names.
     pub fn lines(&self, alloc: Global, files: &List<Text>) -> Result<List<Text>, NoMemory>
         requires { IsOfFile (length files.now) self.now }
         ensures ok { IfOk result (λ lines. lines ≡ lines_of files.now self.now) }
@@ -28,7 +30,7 @@ impl AnswerStop {
         Ok(lines)
     }
 
-    // The first of the lines.
+    // The first line.
     fn line(&self, alloc: Global, files: &List<Text>) -> Result<String, NoMemory>
         requires { IsOfFile (length files.now) self.now }
         ensures ok { IfOk result (λ text. string_bytes text ≡ line_of files.now self.now) }
@@ -68,7 +70,7 @@ impl AnswerStop {
 }
 
 impl PlanFault {
-    // The line that tells it, with its line feed.
+    // The line of the fault, with its line feed.
     fn line(&self, alloc: Global) -> Result<String, NoMemory>
         ensures ok { IfOk result (λ text. string_bytes text ≡ fault_line self.now) }
     {
@@ -88,7 +90,7 @@ impl PlanFault {
     }
 }
 
-// The line that tells the first fault of the text under this name.
+// The line of the first fault of the file with this name.
 fn text_fault(alloc: Global, name: &str, fault: &TextFault) -> Result<String, NoMemory>
     ensures ok { IfOk result (λ text. string_bytes text ≡ text_line name.now fault.now) }
 {

@@ -1,3 +1,5 @@
+//! Reading the models and the plan of a request from their texts.
+
 ghost use Rattle.std.specs.Prelude.{◌≡◌, ◌≤◌, ◌<◌, ◌^◌, [], length, map, All, IfOk, IfErr};
 ghost use Rattle.model_kit.specs.Vocabulary.{IsGroundAction};
 ghost use Rattle.mre_words.specs.Requests.{count_of};
@@ -18,7 +20,7 @@ use std::alloc::Global;
 /// The place of the plan among the contents, counted from 0.
 pub const PLAN_FILE: usize = 4;
 
-/// The two models that texts are of, each in the numbers of its own vocabulary.
+/// The two models of the texts, each in the numbers of its own vocabulary.
 #[derive(Debug, Drop)]
 pub struct Models {
     pub planner: Model,
@@ -37,22 +39,11 @@ pub fn read_models(alloc: Global, contents: &List<Vec<u8>>) -> Result<Models, An
     ensures user_whole { IfOk result (λ made. made.user.unknown ≡ []) }
     ensures err { IfErr result (IsOfModels (map (λ bytes. bytes.items) contents.now)) }
 {
-    let domain = match domain_at(alloc, contents, 0) {
-        Ok(domain) => domain,
-        Err(stop) => return Err(stop),
-    };
-    let planner = match model_at(alloc, contents, 1, &domain) {
-        Ok(model) => model,
-        Err(stop) => return Err(stop),
-    };
-    let other = match domain_at(alloc, contents, 2) {
-        Ok(domain) => domain,
-        Err(stop) => return Err(stop),
-    };
-    match model_at(alloc, contents, 3, &other) {
-        Ok(user) => Ok(Models { planner, user }),
-        Err(stop) => Err(stop),
-    }
+    let domain = domain_at(alloc, contents, 0)?;
+    let planner = model_at(alloc, contents, 1, &domain)?;
+    let other = domain_at(alloc, contents, 2)?;
+    let user = model_at(alloc, contents, 3, &other)?;
+    Ok(Models { planner, user })
 }
 
 // The domain of the text at a place.
@@ -95,8 +86,8 @@ fn model_at(
     }
 }
 
-/// The plan of a request, in the numbers of the planner's vocabulary; a request without one has the
-/// empty plan.
+/// The plan of a request, in the numbers of the planner's vocabulary; a request without a plan has
+/// the empty plan.
 pub fn read_steps(
     alloc: Global,
     request: &Request,
@@ -127,7 +118,7 @@ pub fn read_steps(
     }
 }
 
-/// Whether the request is about a plan.
+/// Whether the request has a plan.
 pub fn has_plan(request: &Request) -> bool
     ensures { result ≡ is_planned request.now }
 {

@@ -2,7 +2,7 @@ use Rattle.std.proofs.Common.{◌<◌, ◌∙◌, length, refl, sym, ap, subst}
 use Rattle.std.specs.Prelude.{slice_get}
 use Rattle.model_kit.specs.Vocabulary.{IsGroundAction, is_object_of}
 use Rattle.model_kit.proofs.Fits.{signature_listed}
-use Rattle.pair_tables.proofs.SchemeLemmas.{schema_within}
+use Rattle.pair_tables.proofs.SchemaLemmas.{schema_within}
 use Rattle.pair_tables.proofs.PriceLemmas.{placed_by, cost_same, cost_two}
 use Rattle.pair_tables.proofs.pricing.cost_case.Goals as goal
 
@@ -31,10 +31,10 @@ value_case-requires-in-Some-clause-placed c =
 pub returns-in-None : goal.returns-in-None
 returns-in-None c =
     cost_same c.args.pair.now.planner c.args.pair.now.user c.args.differences.now c.requires.all c.args.action.now c.item.result.now (ap (λ m. slice_get m.schemas c.args.action.now.schema) (sym c.planner.ensures) ∙ c.item.ensures)
-    c.args.scheme.now.cost c.requires.scheme.cost c.in_ok-told.told c.in_ok-told.ensures c.in-None.is
+    c.args.cases.now.cost c.requires.cases.cost c.in_ok-told.told c.in_ok-told.ensures c.in-None.is
 
 pub returns-in_ok-left-in-Some : goal.returns-in_ok-left-in-Some
 returns-in_ok-left-in-Some c =
     cost_two c.args.pair.now.planner c.args.pair.now.user c.args.differences.now c.requires.all c.args.action.now c.item.result.now (ap (λ m. slice_get m.schemas c.args.action.now.schema) (sym c.planner.ensures) ∙ c.item.ensures)
-    c.args.scheme.now.cost c.requires.scheme.cost c.in_ok-told.told c.in_ok-told.ensures c.in-Some.place c.in-Some.is c.item-in-Some.result.now
+    c.args.cases.now.cost c.requires.cases.cost c.in_ok-told.told c.in_ok-told.ensures c.in-Some.place c.in-Some.is c.item-in-Some.result.now
     (ap (λ m. slice_get m.schemas c.args.action.now.schema) (sym c.user.ensures) ∙ c.item-in-Some.ensures) c.in_ok-left-in-Some.left c.in_ok-left-in-Some.ensures

@@ -22,5 +22,5 @@ returns-in-Err c =
     let tokens = tokens_of_all forest.trees in
     gives_stop c.in-Err.stop forest.past (run (c.args.start ∷ []) [] tokens)
     (if_fault_weaker {A = Unit {0}} (Err c.in-Err.stop) _ _
-    (λ told fails. sym (c.in_ok-reading.ensures.ok tokens) ∙ ap (runs c.in_ok-reading.reading) (sym (append-nil tokens)) ∙ fails [])
+    (λ found fails. sym (c.in_ok-reading.ensures.ok tokens) ∙ ap (runs c.in_ok-reading.reading) (sym (append-nil tokens)) ∙ fails [])
     c.in-Err.ensures.fault)

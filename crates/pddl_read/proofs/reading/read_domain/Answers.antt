@@ -2,7 +2,7 @@ use Rattle.std.proofs.Common.{ℕ, List, Err, arith}
 use Rattle.pddl_models.specs.declared.domain.Domain.{Domain}
 use Rattle.pddl_names.specs.declared.role.Word.{Word}
 use Rattle.pddl_read.specs.Texts.{IsDomainText, IsDomainFault}
-use Rattle.pddl_read.proofs.DomainTexts.{one_domain, not_both, answered, told}
+use Rattle.pddl_read.proofs.DomainTexts.{one_domain, not_both, answered, refused}
 use Rattle.pddl_read.proofs.Few.{words_few}
 use Rattle.pddl_read.proofs.Stopped.{stopped}
 use Rattle.pddl_read.proofs.reading.read_domain.Goals as goal
@@ -27,4 +27,4 @@ returns-in-Err-clause-succeeds c =
 
 pub returns-in-Err-clause-refuses : goal.returns-in-Err-clause-refuses
 returns-in-Err-clause-refuses c =
-    told c.args.bytes.now (Err c.in-Err.stop) tt (stopped (List Word) Domain c.in-Err.stop (IsDomainFault c.args.bytes.now) (IsDomainFault c.args.bytes.now) (λ fault is. is) c.in-Err.ensures.unsaid)
+    refused c.args.bytes.now (Err c.in-Err.stop) tt (stopped (List Word) Domain c.in-Err.stop (IsDomainFault c.args.bytes.now) (IsDomainFault c.args.bytes.now) (λ fault is. is) c.in-Err.ensures.unsaid)

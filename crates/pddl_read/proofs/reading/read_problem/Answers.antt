@@ -2,7 +2,7 @@ use Rattle.std.proofs.Common.{ℕ, List, Err, arith}
 use Rattle.pddl_names.specs.declared.role.Word.{Word}
 use Rattle.model_kit.specs.declared.model.Model.{Model}
 use Rattle.pddl_read.specs.Texts.{IsProblemText, IsProblemFault}
-use Rattle.pddl_read.proofs.ProblemTexts.{one_model, not_both, answered, told}
+use Rattle.pddl_read.proofs.ProblemTexts.{one_model, not_both, answered, refused}
 use Rattle.pddl_read.proofs.Few.{more_few}
 use Rattle.pddl_read.proofs.Stopped.{stopped}
 use Rattle.pddl_read.proofs.reading.read_problem.Goals as goal
@@ -31,4 +31,4 @@ returns-in-Err-clause-succeeds c =
 pub returns-in-Err-clause-refuses : goal.returns-in-Err-clause-refuses
 returns-in-Err-clause-refuses c =
     let domain = c.args.domain.now in
-    told domain c.args.bytes.now (Err c.in-Err.stop) tt (stopped (List Word) Model c.in-Err.stop (IsProblemFault domain c.args.bytes.now) (IsProblemFault domain c.args.bytes.now) (λ fault is. is) c.in-Err.ensures.unsaid)
+    refused domain c.args.bytes.now (Err c.in-Err.stop) tt (stopped (List Word) Model c.in-Err.stop (IsProblemFault domain c.args.bytes.now) (IsProblemFault domain c.args.bytes.now) (λ fault is. is) c.in-Err.ensures.unsaid)

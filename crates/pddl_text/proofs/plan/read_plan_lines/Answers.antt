@@ -11,8 +11,8 @@ returns c =
     let bytes = c.args.bytes.now in
     let read = lines_of bytes in
     let exact = plan_exact bytes in
-    let result = c.read_told.result in
-    let gives = c.read_told.ensures in
+    let result = c.answer.result in
+    let gives = c.answer.ensures in
     record {
       ok = gives_ok read (SpellsPlan bytes) (LeavesPlan bytes) exact result gives;
       fault = gives_fault read (SpellsPlan bytes) (LeavesPlan bytes) exact result gives;

@@ -9,8 +9,8 @@ returns c =
     let bytes = c.args.bytes.now in
     let read = forest_of bytes in
     let exact = forest_exact bytes in
-    let result = c.read_told.result in
-    let gives = c.read_told.ensures in
+    let result = c.answer.result in
+    let gives = c.answer.ensures in
     record {
       ok = gives_ok read (Spells bytes) (IsFirstFault bytes) exact result gives;
       fault = gives_fault read (Spells bytes) (IsFirstFault bytes) exact result gives;

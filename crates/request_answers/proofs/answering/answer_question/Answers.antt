@@ -1,9 +1,9 @@
 use Rattle.std.proofs.Common.{length}
+use Rattle.std.proofs.lemmas.Result.{IfErr-weaker}
 use Rattle.request_answers.specs.Making.{IsOfMaking, IsOfAnswering, made}
-use Rattle.request_answers.proofs.Lifting.{if_err}
 use Rattle.request_answers.proofs.answering.answer_question.Goals as goal
 
-pub returns-in-Ok-clause-err : goal.returns-in-Ok-clause-err
-returns-in-Ok-clause-err c =
-    if_err c.answer_counted.result (IsOfMaking c.args.request.now c.args.question.now (length c.in-Ok.differences)) (IsOfAnswering c.args.request.now c.args.question.now)
-    c.answer_counted.ensures.err (λ stop of. made c.in-Ok.differences c.in-Ok.ensures.ok of)
+pub returns-clause-err : goal.returns-clause-err
+returns-clause-err c =
+    IfErr-weaker c.answer_counted.result (IsOfMaking c.args.request.now c.args.question.now (length c.in_ok-differences.differences)) (IsOfAnswering c.args.request.now c.args.question.now)
+    (λ stop of. made c.in_ok-differences.differences c.in_ok-differences.ensures.ok of) c.answer_counted.ensures.err

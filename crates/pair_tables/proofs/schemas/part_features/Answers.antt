@@ -1,7 +1,7 @@
 use Rattle.std.proofs.Common.{◌<◌, ◌∙◌, length, sym, ap, subst}
 use Rattle.std.specs.Prelude.{slice_get}
-use Rattle.pair_tables.proofs.SchemeLemmas.{parts_are, schema_within}
-use Rattle.pair_tables.proofs.schemes.part_features.Goals as goal
+use Rattle.pair_tables.proofs.SchemaLemmas.{parts_are, schema_within}
+use Rattle.pair_tables.proofs.schemas.part_features.Goals as goal
 
 pub item-requires : goal.item-requires
 item-requires c = schema_within c.args.pair.now.planner c.planner.result.now c.args.action c.planner.ensures c.requires.listed

@@ -1,6 +1,5 @@
-//! The features of each action schema with their conditions.
+//! The action schemas of two models, each with the conditions on its features.
 
-// The action schemas of two models, each with the conditions on its features.
 ghost use Rattle.std.specs.Prelude.{◌≡◌, ◌<◌, ◌≤◌, length, IfOk};
 ghost use Rattle.model_kit.specs.declared.atom.GroundAtom.{GroundAtom};
 ghost use Rattle.model_kit.specs.declared.atom.SchemaAtom.{SchemaAtom};
@@ -11,7 +10,7 @@ ghost use Rattle.named_tables.specs.Models.{EitherHas};
 ghost use Rattle.named_tables.specs.Tables.{IsWhen};
 ghost use Rattle.pair_rules.specs.Ruled.{models_of};
 ghost use Rattle.pair_tables.specs.Featured.{AreFeatures};
-ghost use Rattle.pair_tables.specs.Schemes.{IsScheme, AreSchemes};
+ghost use Rattle.pair_tables.specs.Schemas.{IsSchemaCases, AreSchemaCases};
 
 use crate::features::{features_of, number_at};
 use case_kit::When;
@@ -22,8 +21,8 @@ use model_kit::{GroundAtom, SchemaAtom};
 use mre_base::{List, NoMemory, narrowed};
 use std::alloc::Global;
 
-/// An action schema in two models.
-pub(crate) struct Scheme {
+/// The features of an action schema in two models, each with its condition.
+pub(crate) struct SchemaCases {
     pub(crate) pre: List<(SchemaAtom, When)>,
     pub(crate) add: List<(SchemaAtom, When)>,
     pub(crate) del: List<(SchemaAtom, When)>,
@@ -33,9 +32,9 @@ pub(crate) struct Scheme {
     pub(crate) cost: Option<u32>,
 }
 
-impl Drop for Scheme {
+impl Drop for SchemaCases {
     fn drop(self) {
-        let Scheme {
+        let SchemaCases {
             pre: _,
             add: _,
             del: _,
@@ -103,19 +102,19 @@ fn known_when(pair: &Pair, differences: &List<Difference>, action: u32) -> When
     }
 }
 
-fn scheme_of(
+fn schema_cases(
     alloc: Global,
     pair: &Pair,
     differences: &List<Difference>,
     action: u32,
-) -> Result<Scheme, NoMemory>
+) -> Result<SchemaCases, NoMemory>
     requires few { length differences.now ≤ 256 }
     requires all { AreDifferencesOf pair.now.planner pair.now.user differences.now }
     requires listed { action < length pair.now.planner.words.actions }
-    ensures { IfOk result (IsScheme (models_of pair.now.planner pair.now.user differences.now)
+    ensures { IfOk result (IsSchemaCases (models_of pair.now.planner pair.now.user differences.now)
         action) }
 {
-    Ok(Scheme {
+    Ok(SchemaCases {
         pre: part_features(alloc, pair, differences, action, Part::Pre)?,
         add: part_features(alloc, pair, differences, action, Part::Add)?,
         del: part_features(alloc, pair, differences, action, Part::Del)?,
@@ -124,21 +123,21 @@ fn scheme_of(
     })
 }
 
-/// All action schemas, by their numbers.
-pub(crate) fn schemes_of(
+/// The cases of all action schemas, by the schemas' numbers.
+pub(crate) fn all_schema_cases(
     alloc: Global,
     pair: &Pair,
     differences: &List<Difference>,
-) -> Result<List<Scheme>, NoMemory>
+) -> Result<List<SchemaCases>, NoMemory>
     requires few { length differences.now ≤ 256 }
     requires all { AreDifferencesOf pair.now.planner pair.now.user differences.now }
-    ensures { IfOk result (AreSchemes (models_of pair.now.planner pair.now.user differences.now)
+    ensures { IfOk result (AreSchemaCases (models_of pair.now.planner pair.now.user differences.now)
         (length pair.now.planner.words.actions)) }
 {
     let count = narrowed(pair.words().actions.len())?;
-    let mut schemes = List::empty(alloc);
+    let mut schemas = List::empty(alloc);
     for action in 0..count {
-        schemes.push(scheme_of(alloc, pair, differences, action)?)?;
+        schemas.push(schema_cases(alloc, pair, differences, action)?)?;
     }
-    Ok(schemes)
+    Ok(schemas)
 }

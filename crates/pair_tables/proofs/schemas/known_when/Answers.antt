@@ -1,7 +1,7 @@
 use Rattle.std.proofs.Common.{◌∙◌, sym, ap}
 use Rattle.model_kit.specs.Places.{Knows, meaning}
-use Rattle.pair_tables.proofs.SchemeLemmas.{known_both, known_told, known_left}
-use Rattle.pair_tables.proofs.schemes.known_when.Goals as goal
+use Rattle.pair_tables.proofs.SchemaLemmas.{known_both, known_told, known_left}
+use Rattle.pair_tables.proofs.schemas.known_when.Goals as goal
 
 pub returns-in-None : goal.returns-in-None
 returns-in-None c = λ has. known_both c.args.pair.now.planner c.args.pair.now.user c.args.differences.now c.requires.all c.args.action (sym c.number_at.ensures ∙ c.in-None.is) has

@@ -28,9 +28,9 @@ use Rattle.named_tables.specs.Models.{Models, EitherHas}
 use Rattle.named_tables.specs.Tables.{IsWhen}
 use Rattle.pair_rules.specs.Ruled.{models_of}
 use Rattle.pair_rules.proofs.FeatureLemmas.{part_has, has_part}
-use Rattle.pair_tables.specs.declared.schemes.Scheme.{Scheme}
+use Rattle.pair_tables.specs.declared.schemas.SchemaCases.{SchemaCases}
 use Rattle.pair_tables.specs.Featured.{features, AreFeatures}
-use Rattle.pair_tables.specs.Schemes.{IsScheme, AreSchemes}
+use Rattle.pair_tables.specs.Schemas.{IsSchemaCases, AreSchemaCases}
 use Rattle.pair_tables.proofs.FeatureLemmas.{are_features, agree_at, planner_when_is, user_when_is}
 
 -- the facts and the parts of schemas that a model has are those of its lists
@@ -90,12 +90,12 @@ module _ (planner user : Model) (differences : List Difference) (all : AreDiffer
 pub schema_within : (model same : Model) (action : ℕ) → same ≡ model → action < length model.words.actions → action < length same.schemas
 schema_within model same action is lt = subst (λ m. action < length m.schemas) (sym is) (let one_each = (facts_of_model model).one_each in omega (arith, lt, one_each))
 
--- one more scheme
-pub schemes_more : (models : Models) (count : ℕ) (old new : List Scheme) (scheme : Scheme) → AreSchemes models count old → IsScheme models count scheme → new ≡ old ++ scheme ∷ [] → AreSchemes models (count + 1) new
-schemes_more models count old new scheme before is now = record {
-  counted = ap length now ∙ length_push old scheme ∙ ap (λ n. n + 1) before.counted;
-  each = λ schema other at. elim (push_cases old scheme schema other (sym (ap (λ list. slice_get list schema) now) ∙ at)) [
+-- the cases of one more schema
+pub schemas_more : (models : Models) (count : ℕ) (old new : List SchemaCases) (cases : SchemaCases) → AreSchemaCases models count old → IsSchemaCases models count cases → new ≡ old ++ cases ∷ [] → AreSchemaCases models (count + 1) new
+schemas_more models count old new cases before is now = record {
+  counted = ap length now ∙ length_push old cases ∙ ap (λ n. n + 1) before.counted;
+  each = λ schema other at. elim (push_cases old cases schema other (sym (ap (λ list. slice_get list schema) now) ∙ at)) [
     | inl earlier ↦ before.each schema other earlier
-    | inr (last, same) ↦ subst (λ n. IsScheme models n other) (sym (last ∙ before.counted)) (subst (IsScheme models count) (sym same) is)
+    | inr (last, same) ↦ subst (λ n. IsSchemaCases models n other) (sym (last ∙ before.counted)) (subst (IsSchemaCases models count) (sym same) is)
   ];
 }

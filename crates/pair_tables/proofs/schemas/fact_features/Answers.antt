@@ -1,7 +1,7 @@
 use Rattle.std.proofs.Common.{◌∙◌, ap}
 use Rattle.feature_diff.specs.Telling.{facts_of}
-use Rattle.pair_tables.proofs.SchemeLemmas.{facts_are}
-use Rattle.pair_tables.proofs.schemes.fact_features.Goals as goal
+use Rattle.pair_tables.proofs.SchemaLemmas.{facts_are}
+use Rattle.pair_tables.proofs.schemas.fact_features.Goals as goal
 
 pub returns : goal.returns
 returns c =
