@@ -65,8 +65,8 @@ impl PartialOrd for FunctionTerm {
     }
 }
 
-/// The values of a model, for look-ups. Where a function stood twice at the same objects, the first
-/// value would count.
+/// The values of a model, for look-ups. If a function were listed twice at the same objects, the
+/// first value would count.
 pub fn value_table(
     alloc: Global,
     values: &List<(u32, List<u32>, u32)>,
