@@ -108,11 +108,3 @@ module _ (model : Model) (plan : List GroundAction) (place : ℕ) (state : BTree
         has = (any_from_listed same_atom same_atom-decides atom model.goal missing.has.0, λ there. missing.has.1 ((alike atom).0 there));
         first = λ other opened differs. missing.first other (listed_from_any same_atom same_atom-decides other model.goal opened.0, λ there. opened.1 ((alike other).1 there)) differs;
       }) (Initial (meaning model)) plan through
-
--- the initial facts
-pub reached_start : (model : Model) (plan : List GroundAction) (state : BTreeSet GroundAtom) → ((atom : GroundAtom) → has state atom ≡ list_any (same_atom atom) model.init) → Reached (meaning model) plan 0 state 0
-reached_start model plan state is = record {
-  leads = λ atom. (λ there. is atom ∙ there, λ there. sym (is atom) ∙ there);
-  priced = refl;
-  bounded = omega arith;
-}

@@ -5,6 +5,7 @@ use Rattle.std.specs.List.{list_any, range_with_len}
 use Rattle.std.specs.Ordering.{nat_cmp}
 use Rattle.std.specs.FinSet as set
 use Rattle.std.proofs.lemmas.Bool.{true≢false, cases_Bool, cases_order, or_cases, or_parts, or_left, or_right, eq-eqb, eqb-true}
+use Rattle.mre_base.proofs.ListOrder.{range-list_any}
 use Rattle.model_kit.specs.Places.{Place, Meaning, same_place}
 use Rattle.model_kit.specs.Differences.{is_told, patched}
 use Rattle.model_kit.proofs.Alike.{same_place-decides}
@@ -26,14 +27,9 @@ all_has d q low high = set.contains-from_list_nat (range_with_len 1 d) q ∙ in_
 
 pub all_within : (d : ℕ) → Within d (all_of d)
 all_within d q there =
-    let at = some_at_least (λ y. nat_eq y q) 1 d (sym (set.contains-from_list_nat (range_with_len 1 d) q) ∙ there) in
+    let at = range-list_any (λ y. nat_eq y q) 1 d (sym (set.contains-from_list_nat (range_with_len 1 d) q) ∙ there) in
     let same = eqb-true at.0 q at.3 in
     (omega (arith, at.1, same), omega (arith, at.2, same))
-  where
-    some_at_least : (p : ℕ → Bool) (a n : ℕ) → list_any p (range_with_len a n) ≡ true → (k : ℕ) × (a ≤ k) × (k < a + n) × (p k ≡ true)
-    some_at_least p a zero e = absurd (true≢false (sym e))
-    some_at_least p a (suc n) e =
-        ⊎_elim (λ here. (a, omega arith, omega arith, here)) (λ later. let at = some_at_least p (a + 1) n later in (at.0, omega (arith, at.1), omega (arith, at.2), at.3)) (or_cases (p a) (list_any p (range_with_len (a + 1) n)) e)
 
 -- where each number passes, the listed places are told
 told_if_listed : (k : ℕ) (places : List Place) (passes : ℕ → Bool) → ((n : ℕ) → k ≤ n → n < k + length places → passes n ≡ true) → (p : Place) → is_told k places passes p ≡ list_any (λ q. same_place q p) places
