@@ -4,7 +4,6 @@
 
 mod reading;
 
-use model_lines::fault_text;
 use mre_base::NoMemory;
 use mre_outside::{FileShelf, Sink, StdSink};
 use reading::{Stop, read_texts};
@@ -13,8 +12,8 @@ use std::env;
 use std::io::ErrorKind;
 use std::process::ExitCode;
 
-/// The statuses of `mre`: usage, a failed read, a failed write, a fault, a file past its limit,
-/// want of memory.
+/// The statuses of `mre`: usage, a failed read, a failed write, a fault, a file past its limit, out
+/// of memory.
 const USAGE: u8 = 2;
 
 const READ_FAILED: u8 = 3;
@@ -27,7 +26,7 @@ const PAST_LIMIT: u8 = 7;
 
 const NO_MEMORY: u8 = 9;
 
-// The line that tells why a text was not read, and the status that the program ends with.
+// The line that says why a text wasn't read, and the status that the program ends with.
 fn line_of(alloc: Global, stop: &Stop, names: &[String]) -> Result<(String, u8), NoMemory> {
     match stop {
         Stop::Usage => {
@@ -48,7 +47,7 @@ fn line_of(alloc: Global, stop: &Stop, names: &[String]) -> Result<(String, u8),
         }
         Stop::Fault { file, fault } => {
             let name = name_at(names, *file);
-            let text = fault_text(alloc, fault)?;
+            let text = fault.printed(alloc)?;
             Ok((format!(in alloc; "mre: {name}:{}\n", text.as_str())?, FAULT))
         }
         Stop::NoMemory => Err(NoMemory),

@@ -12,7 +12,7 @@ use std::alloc::Global;
 /// The bytes that a file may have.
 const FILE_LIMIT: u32 = 4_194_304;
 
-/// Why nothing is printed. A `file` is the place of a name among the words, counted from 0.
+/// Why nothing is printed. A `file` is the place of a name among the arguments, counted from 0.
 #[derive(Debug, Drop)]
 pub enum Stop {
     Usage,
@@ -40,7 +40,7 @@ fn read_file<H: Shelf>(shelf: &mut H, name: &str, file: usize) -> Result<Vec<u8>
     }
 }
 
-// What a reader answers, where it gives no value.
+// Why a text has no value, with its file.
 fn stopped(stop: ReadStop, file: usize) -> Stop {
     match stop {
         ReadStop::Fault(fault) => Stop::Fault { file, fault },
@@ -48,7 +48,7 @@ fn stopped(stop: ReadStop, file: usize) -> Stop {
     }
 }
 
-/// What the texts under the names hold, line by line: a domain, or a problem of a domain, or a plan
+/// The lines of the last of the texts under the names: a domain, a problem of the domain, or a plan
 /// for both.
 pub fn read_texts<H: Shelf>(
     alloc: Global,
@@ -72,7 +72,7 @@ pub fn read_texts<H: Shelf>(
     }
 }
 
-// What a problem of the domain holds, or a plan for both.
+// The lines of a problem of the domain, or of a plan for both.
 fn read_more<H: Shelf>(
     alloc: Global,
     domain: &Domain,
