@@ -8,9 +8,6 @@ use Rattle.bound_cert.specs.Lines.{lines, state_lines}
 use Rattle.bound_cert.proofs.ListLemmas.{take_next}
 use Rattle.bound_cert.proofs.LineLemmas.{lines_next, length-state_lines}
 
-pub all_next : {X : Type 0} (P : X → Type 0) (xs : List X) (i : ℕ) (x : X) → slice_get xs i ≡ Some x → All P (take i xs) → P x → All P (take (i + 1) xs)
-all_next P xs i x at each here = subst (All P) (sym (take_next xs i x at)) (All-push P (take i xs) x each here)
-
 pub counted_next : (atoms : ℕ) (states : List BoundState) (i : ℕ) (s : BoundState) (count : ℕ) → slice_get states i ≡ Some s → length (lines atoms (take i states)) ≡ count
     → length (lines atoms (take (i + 1) states)) ≡ count + (length (cuts_of s.how) + 1)
 counted_next atoms states i s count at e =
