@@ -35,7 +35,7 @@ fn weights_of(changes: &[(u32, u32)]) -> Weights {
     weights
 }
 
-// Of two different sets the first is before the second, and not the other way round.
+// Checks that of two different sets only the first is before the other.
 fn assert_before(rt: &impl Abort, weights: &[(u32, u32)], one: &[u32], two: &[u32]) {
     let weights = weights_of(weights);
     let one = set_of(one);

@@ -1,4 +1,4 @@
-//! Texts, lists, sets of numbers, the log of nodes and cubes, on tables.
+//! Tests of texts, lists, sets of numbers, the log of nodes, and cubes.
 #![tactic(auto)]
 
 #[cfg(test)]

@@ -1,4 +1,4 @@
-//! What is reachable in small worlds.
+//! Tests of reachability in small worlds.
 #![tactic(auto)]
 
 #[cfg(test)]
