@@ -27,7 +27,7 @@ use Rattle.feature_diff.specs.Blending.{those, blended, blended_schema, AreBlend
 use Rattle.feature_diff.proofs.JoinLemmas.{pairs_append}
 use Rattle.feature_diff.proofs.ValueLemmas.{key_decides}
 use Rattle.mre_base.proofs.Listed.{item_at}
-use Rattle.mre_base.proofs.Tests.{or_false}
+use Rattle.mre_base.proofs.Tests.{or_false, beq_same as beq_is}
 
 -- ---- the loop that keeps some entries
 
@@ -160,12 +160,6 @@ value_blended f xs test false agree ps us =
     ∙ value_kept f xs test false agree us [] refl
 
 -- ---- a blended list keeps what both lists keep
-
-beq_is : (b c : Bool) → beq b c ≡ true → b ≡ c
-beq_is true true e = refl
-beq_is true false e = absurd (true≢false (sym e))
-beq_is false true e = absurd (true≢false (sym e))
-beq_is false false e = refl
 
 pub blended_facts : {X : Type 0} (passes : X → Bool) (R : X → X → Type 0) (test : X → Bool) → ((x y : X) → R x y → test x ≡ test y) → (ps us : List X) → ListFacts passes R ps → ListFacts passes R us → ListFacts passes R (blended test ps us)
 blended_facts passes R test respects ps us first second = record {

@@ -46,9 +46,6 @@ module _ (planner user : Model) (g : ℕ) {X : Type 0} (same : X → X → Bool)
           inside = ap (group planner.words) at ∙ features.in_group x;
         }
 
-    listed : (x : X) (xs : List X) → Contains xs x → list_any (same x) xs ≡ true
-    listed x xs there = any_from_listed same decides x xs there
-
     unlisted : (x : X) (xs : List X) → ((y : X) → Contains xs y → form y ≢ form x) → list_any (same x) xs ≡ false
     unlisted x xs none = false_from_ne_true (list_any (same x) xs) (λ e. none x (listed_from_any same decides x xs e) refl)
 
@@ -56,7 +53,7 @@ module _ (planner user : Model) (g : ℕ) {X : Type 0} (same : X → X → Bool)
     both_have x y in_x in_y e =
         let is : x ≡ y = features.apart x y (inl in_x) (inr in_y) e in
         features.planner_means x
-        ∙ ap Feature (listed x ps in_x ∙ sym (listed x us (subst (Contains us) (sym is) in_y)))
+        ∙ ap Feature (any_from_listed same decides x ps in_x ∙ sym (any_from_listed same decides x us (subst (Contains us) (sym is) in_y)))
         ∙ sym (features.user_means x)
 
     either_has : (x : X) → (meaning planner (place x) ≡ meaning user (place x)) ⊎ (Contains ps x ⊎ Contains us x)
@@ -73,8 +70,8 @@ module _ (planner user : Model) (g : ℕ) {X : Type 0} (same : X → X → Bool)
       printed_as = features.printed_as;
       in_group = features.in_group;
       placed = features.placed;
-      planner_alone = λ x there none. one_feature x true (inl there) (listed x ps there) (unlisted x us none);
-      user_alone = λ y there none. one_feature y false (inr there) (unlisted y ps none) (listed y us there);
+      planner_alone = λ x there none. one_feature x true (inl there) (any_from_listed same decides x ps there) (unlisted x us none);
+      user_alone = λ y there none. one_feature y false (inr there) (unlisted y ps none) (any_from_listed same decides y us there);
       in_both = both_have;
       apart = λ x y in_x in_y e. ap place (features.apart x y in_x in_y e);
       others = λ p in_p.

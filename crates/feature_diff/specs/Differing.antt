@@ -1,5 +1,5 @@
--- A difference: its place, and the content of the place in the planner's model and in the user's. And
--- the list of all differences.
+-- A difference: its place, and the content of the place in the planner's model and in the user's.
+-- And the list of all differences.
 use Rattle.std.specs.Prelude.{ℕ, ◌≡◌, ◌≤◌, ◌<◌, not, IsTrue, List, map, length, All, Result, Ok}
 use Rattle.std.specs.Prelude.{Err}
 use Rattle.std.specs.Ordering.{nat_cmp}

@@ -29,13 +29,13 @@ IsTable planner m user n table =
     (form : Form) → StandsAt planner m form.text (spots_of (get form_cmp table form)).planner
     × StandsAt user n form.text (spots_of (get form_cmp table form)).user
 
--- the planner's list has the form at this place, and the second map says so
+-- the second map also has the place of this form in the planner's list
 abbrev pub NotesPlanner : BTreeMap Form Spots → BTreeMap Form Spots → List ℕ → ℕ → Type 0
 NotesPlanner before after form place =
     (planner user : List (List ℕ)) (n : ℕ) → slice_get planner place ≡ Some form
     → IsTable planner place user n before → IsTable planner (place + 1) user n after
 
--- the same of the user's list
+-- likewise in the user's list
 abbrev pub NotesUser : BTreeMap Form Spots → BTreeMap Form Spots → List ℕ → ℕ → Type 0
 NotesUser before after form place =
     (planner user : List (List ℕ)) (m : ℕ) → slice_get user place ≡ Some form

@@ -20,7 +20,7 @@ pub fn knows(model: &Model, action: u32) -> bool
     !model.unknown.as_slice().contains(&action)
 }
 
-// Tells that one model alone knows an action.
+// Adds the difference on an action that only one model knows.
 fn tell_knowledge(
     planner: &Model,
     user: &Model,
@@ -59,7 +59,7 @@ fn are_same_costs(one: &CostExpr, other: &CostExpr) -> bool
     }
 }
 
-// Tells that an action has another cost in each model.
+// Adds the difference on the cost of an action, if the models give it different ones.
 fn tell_cost(
     alloc: Global,
     planner: &Model,
@@ -86,7 +86,7 @@ fn tell_cost(
     })
 }
 
-// Tells all differences of an action.
+// Adds all differences on an action.
 fn tell_action(
     alloc: Global,
     planner: &Model,
@@ -118,8 +118,7 @@ fn tell_action(
     tell_cost(alloc, planner, user, action, gathered)
 }
 
-// Adds all differences of all actions. More actions than a number of 32 bits counts are answered as
-// running out of memory.
+// Adds all differences on all actions. Action numbers past 32 bits count as running out of memory.
 pub(crate) fn tell_actions(
     alloc: Global,
     planner: &Model,

@@ -120,7 +120,7 @@ fn blend_schema(
     })
 }
 
-// All schemas. More actions than a number of 32 bits counts are answered as running out of memory.
+// All schemas. Action numbers past 32 bits count as running out of memory.
 fn blend_schemas(
     alloc: Global,
     planner: &List<Schema>,

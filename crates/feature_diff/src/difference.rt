@@ -4,7 +4,7 @@ use model_kit::{CostExpr, GroundAtom, SchemaAtom};
 use mre_base::List;
 
 /// A place at which two models differ, in the numbers of their joint vocabulary: a feature that
-/// exactly one of them has, or a cost or a value that is another in each.
+/// exactly one of them has, or a cost or a value that isn't the same in both.
 #[derive(Debug, Drop)]
 pub enum Difference {
     /// An initial fact.

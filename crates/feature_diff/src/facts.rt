@@ -30,7 +30,7 @@ pub fn facts_in(kind: FactKind, model: &Model) -> &List<GroundAtom>
     }
 }
 
-// Tells the initial facts or the goal facts that one model alone has.
+// Adds the differences on initial facts or on goal facts: those that only one model has.
 pub(crate) fn tell_facts(
     alloc: Global,
     planner: &Model,

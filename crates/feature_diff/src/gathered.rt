@@ -30,8 +30,7 @@ impl Gathered {
         }
     }
 
-    // One more difference. More than a number of 32 bits counts are answered as running out of
-    // memory.
+    // Adds a difference. A number of differences past 32 bits counts as running out of memory.
     pub(crate) fn add(&mut self, difference: Difference) -> Result<(), NoMemory>
         ensures ok { OnOk result (Grows self.old self.new (difference ∷ [])) }
     {

@@ -17,8 +17,8 @@ use mre_base::{List, NoMemory, Places};
 use std::alloc::Global;
 
 /// The planner's model and the user's, both in the numbers of their joint vocabulary: the planner's
-/// entries with their numbers, and after them the predicates, functions and actions that the user
-/// alone has.
+/// entries with their numbers, and after them the predicates, functions and actions that only the
+/// user has.
 #[derive(Debug)]
 pub struct Pair {
     pub planner: Model,

@@ -10,14 +10,14 @@ use mre_base::{List, NoMemory, Text};
 use std::alloc::Global;
 use std::collections::BTreeMap;
 
-// The place of a printed form in the planner's list and in the user's, counted from 0, if it has one.
+// The places of a printed form in the planner's list and in the user's, counted from 0, if any.
 #[derive(Clone, Copy)]
 pub(crate) struct Spots {
     pub(crate) planner: Option<usize>,
     pub(crate) user: Option<usize>,
 }
 
-// A printed form, and its places.
+// A printed form and its places.
 pub(crate) struct Row {
     pub(crate) form: Text,
     pub(crate) spots: Spots,
@@ -47,7 +47,7 @@ pub(crate) fn align(
     lay_out(alloc, table)
 }
 
-// What the map has at a form.
+// The places of a form by the map.
 fn spots_at(table: &BTreeMap<Form, Spots>, form: &Form) -> Spots
     ensures { result ≡ spots_of (get form_cmp table.now form.now) }
 {
@@ -60,7 +60,7 @@ fn spots_at(table: &BTreeMap<Form, Spots>, form: &Form) -> Spots
     }
 }
 
-// The form is at this place of the planner's list.
+// Sets the place of a form in the planner's list.
 fn note_planner(
     alloc: Global,
     table: &mut BTreeMap<Form, Spots>,
@@ -80,7 +80,7 @@ fn note_planner(
     Ok(())
 }
 
-// The form is at this place of the user's list.
+// Sets the place of a form in the user's list.
 fn note_user(
     alloc: Global,
     table: &mut BTreeMap<Form, Spots>,

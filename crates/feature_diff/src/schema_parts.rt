@@ -39,7 +39,8 @@ pub fn atoms_in(part: Part, schema: &Schema) -> &List<SchemaAtom>
     }
 }
 
-// Tells the preconditions, adds or deletes of an action that one model alone has.
+// Adds the differences on the preconditions, adds or deletes of an action: those that only one
+// model has.
 pub(crate) fn tell_part(
     alloc: Global,
     planner: &Model,

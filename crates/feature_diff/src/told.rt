@@ -31,12 +31,11 @@ pub(crate) trait Told<K> {
         requires { Fits words.now self.now }
         ensures ok { IfOk result (λ text. text ≡ form words.now self.now) };
 
-    // The difference where one model alone has it.
+    // The difference if only one model has it.
     fn tell_alone(&self, alloc: Global, kind: &K, planner_has: bool) -> Result<Difference, NoMemory>
         ensures ok { IfOk result (λ difference. difference ≡ alone kind.now self.now planner_has) };
 
-    // The difference between what both models have under one printed form, or none where it is the
-    // same.
+    // The difference between what both models have under one printed form, if it isn't the same.
     fn tell_both(
         &self,
         user: &Self,
@@ -88,7 +87,7 @@ fn told_at<K, T: Told<K>>(
     }
 }
 
-// Tells what two lists have in one row.
+// Adds the difference of two lists in one row, if there is one.
 fn tell_row<K, T: Told<K>>(
     alloc: Global,
     kind: &K,
@@ -108,7 +107,7 @@ fn tell_row<K, T: Told<K>>(
     }
 }
 
-// Tells what they have in each row.
+// Adds the differences of two lists in all rows.
 fn tell_rows<K, T: Told<K>>(
     alloc: Global,
     kind: &K,
@@ -127,7 +126,7 @@ fn tell_rows<K, T: Told<K>>(
     Ok(())
 }
 
-// Tells all that two lists don't have alike.
+// Adds all differences of two lists.
 pub(crate) fn tell<K, T: Told<K>>(
     alloc: Global,
     words: &Vocabulary,

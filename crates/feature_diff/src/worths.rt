@@ -17,7 +17,8 @@ use std::alloc::Global;
 #[derive(Clone, Copy)]
 pub struct Worths;
 
-// Tells the values that one model alone has, or that are other numbers in each.
+// Adds the differences on function values: those that only one model has, and those that aren't the
+// same in both.
 pub(crate) fn tell_values(
     alloc: Global,
     planner: &Model,

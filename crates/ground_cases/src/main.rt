@@ -1,9 +1,8 @@
 //! Reads the texts of pairs of models from standard input, a text a line, and prints their tables.
 //!
 //! The lines `domain TEXT` and `problem TEXT` give the planner's model, `user-domain TEXT` and
-//! `user-problem TEXT` the user's. A line `counts`
-//! prints how many atoms and ground actions the pair's table lists, a line `names` their printed
-//! forms too, and a line `table` all of it.
+//! `user-problem TEXT` the user's. A line `counts` prints how many atoms and ground actions the
+//! pair's table lists, a line `names` their printed forms too, and a line `table` all of it.
 #![tactic(auto)]
 
 mod cases;

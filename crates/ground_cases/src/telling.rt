@@ -107,10 +107,10 @@ fn tell_stop(alloc: Global, stop: &GroundStop) -> Result<String, NoMemory> {
     }
 }
 
-/// How much of a table is told.
+/// How much of a table is printed.
 #[derive(Clone, Copy)]
 pub enum Part {
-    /// How many atoms and actions it lists.
+    /// The numbers of atoms and actions.
     Counts,
     /// Their printed forms too.
     Names,

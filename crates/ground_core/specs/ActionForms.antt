@@ -1,5 +1,5 @@
--- Different actions have different printed forms: an action is printed as an atom is, in a vocabulary
--- whose predicates are the actions.
+-- Different actions have different printed forms: an action is printed as an atom is, in a
+-- vocabulary whose predicates are the actions.
 use Rattle.std.proofs.Common.{◌≡◌, true, ap}
 use Rattle.model_kit.specs.declared.vocabulary.Vocabulary.{Vocabulary}
 use Rattle.model_kit.specs.declared.atom.GroundAtom.{GroundAtom}

@@ -23,7 +23,7 @@ pub record IsGroundOf (planner user : Model) (differences : List Difference)
   pub atoms_named : ground.names.atoms.items ≡ map (atom_form planner.words) atoms
   pub actions_named : ground.names.actions.items ≡ map (action_form planner.words) actions
 
--- more may be reached than a table may list
+-- more is reachable than a table may list
 abbrev pub IsFull : Model → Model → List Difference → Type 0
 IsFull planner user differences =
     ManyAtoms planner user differences ⊎ ManyActions planner user differences

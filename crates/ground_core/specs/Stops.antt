@@ -1,4 +1,4 @@
--- Why two models are not put into a table: more may be reached in them than it may list.
+-- Why two models have no table: more is reachable in them than a table may list.
 use Rattle.std.specs.Prelude.{◌≡◌, ⊤}
 use Rattle.model_kit.specs.declared.model.Model.{Model}
 use Rattle.reach_kit.specs.declared.world.ReachStop.{ReachStop}
@@ -20,7 +20,7 @@ stop_of (reached.TooManyAtoms limit) = TooManyAtoms limit
 stop_of (reached.TooManyActions limit) = TooManyActions limit
 stop_of reached.NoMemory = NoMemory
 
--- more atoms than 4,096 may be reached, more actions than 50,000
+-- more than 4,096 atoms are reachable, or more than 50,000 actions
 abbrev pub ManyAtoms : Model → Model → List Difference → Type 0
 ManyAtoms planner user differences =
     MoreThan 4096 (λ atom. Reachable (models_of planner user differences) (Atom atom))
@@ -29,7 +29,7 @@ abbrev pub ManyActions : Model → Model → List Difference → Type 0
 ManyActions planner user differences =
     MoreThan 50000 (λ action. Reachable (models_of planner user differences) (Action action))
 
--- the limit is told that is passed; only want of memory needs no cause
+-- the limit that is reported is passed; only running out of memory needs no cause
 abbrev pub Exceeds : Model → Model → List Difference → GroundStop → Type 0
 Exceeds planner user differences (TooManyAtoms limit) =
     (limit ≡ 4096) × ManyAtoms planner user differences

@@ -14,19 +14,18 @@ use pair_tables::table_of;
 use reach_kit::{Limits, reach};
 use std::alloc::Global;
 
-/// How many atoms a table may list.
+/// The most atoms that a table may list.
 pub const MOST_ATOMS: u32 = 4096;
 
-/// How many ground actions a table may list.
+/// The most ground actions that a table may list.
 pub const MOST_ACTIONS: u32 = 50_000;
 
-/// Puts a pair into a table on numbers: the atoms that may become true and the ground actions that
-/// may be done where the initial facts
-/// and the adds of both models count, an action has a cost after some set of differences, and only
-/// the preconditions that both have are
-/// asked for (delete relaxation, Bonet and Geffner 2001). Both have numbers by the ASCII order of
-/// their printed forms. `NoMemory` leaves
-/// all as it was; more than 32 bits of actions, types or objects count as want of memory.
+/// Puts a pair into a table on numbers: the atoms and ground actions that are reachable when the
+/// initial facts and the adds of both models count, an action has a cost after some set of
+/// differences, and only the preconditions that both models have are asked for (delete relaxation,
+/// Bonet and Geffner 2001). Atoms and actions are numbered by the ASCII order of their printed
+/// forms. `NoMemory` leaves all as it was; more than 32 bits of actions, types or objects count as
+/// running out of memory.
 pub fn ground(
     alloc: Global,
     pair: &Pair,

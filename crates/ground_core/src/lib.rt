@@ -1,5 +1,5 @@
-//! Grounding: the table of two models over all that may be reached in them, numbered in the order
-//! of printed forms.
+//! Grounding: the table of two models over their reachable atoms and actions, numbered in the order
+//! of their printed forms.
 #![tactic(auto)]
 
 mod grounding;

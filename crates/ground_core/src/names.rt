@@ -28,14 +28,14 @@ impl Drop for NameTable {
 }
 
 impl NameTable {
-    /// How many atoms there are.
+    /// The number of atoms.
     pub fn atom_count(&self) -> u32
         ensures { result ≡ length self.now.atoms.items }
     {
         self.atoms.len() as u32
     }
 
-    /// How many ground actions there are.
+    /// The number of ground actions.
     pub fn action_count(&self) -> u32
         ensures { result ≡ length self.now.actions.items }
     {

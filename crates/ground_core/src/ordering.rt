@@ -1,6 +1,5 @@
 //! Things in the order of their printed forms.
 
-// Things in the order of their printed forms.
 ghost use Rattle.std.specs.Prelude.{◌≡◌, All, IfOk};
 ghost use Rattle.model_kit.specs.Printed.{atom_form, action_form};
 ghost use Rattle.model_kit.specs.Vocabulary.{IsGroundAction, is_ground_atom};
@@ -11,7 +10,7 @@ use mre_base::{List, NoMemory, Text};
 use std::alloc::Global;
 use std::collections::BTreeMap;
 
-/// What is printed in the words of a vocabulary, so that no two have one form.
+/// Things that are printed in the words of a vocabulary, no two of which have the same form.
 pub(crate) trait Printable: Drop {
     ghost use Rattle.std.specs.Prelude.{◌≡◌, List as ListOf, ℕ};
     ghost use Rattle.model_kit.specs.declared.vocabulary.Vocabulary.{Vocabulary};

@@ -6,12 +6,12 @@ ghost use Rattle.ground_core.specs.Stops.{no_memory, stop_of};
 use mre_base::NoMemory;
 use reach_kit::ReachStop;
 
-/// Why two models were not put into a table. Where both limits are passed, either may be named.
+/// Why two models have no table. If both limits are passed, either of them may be named.
 #[derive(Clone, Copy, Debug, PartialEq, Eq)]
 pub enum GroundStop {
-    /// More ground actions than this may be reached.
+    /// More ground actions than this are reachable.
     TooManyActions { limit: u32 },
-    /// More ground atoms than this may be reached.
+    /// More ground atoms than this are reachable.
     TooManyAtoms { limit: u32 },
     NoMemory,
 }

@@ -3,8 +3,7 @@
 use crate::NameTable;
 use case_kit::CaseTable;
 
-/// The table of two models over all that may be reached in them, and the printed forms of what it
-/// lists.
+/// The table of two models over their reachable atoms and actions, and the printed forms of these.
 pub struct Ground {
     pub table: CaseTable,
     pub names: NameTable,

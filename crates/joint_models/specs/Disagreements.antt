@@ -38,8 +38,8 @@ is_shared Actions = false
 is_shared Predicates = false
 is_shared Functions = false
 
--- what two vocabularies have under a name is the same; where one alone may have the name, this is
--- asked where both have it
+-- what two vocabularies have under a name is the same; in a group where a name may be in only one
+-- of them, this is asked of the names that both have
 abbrev pub AreAlike : Bool → Option (List (List ℕ)) → Option (List (List ℕ)) → Type 0
 AreAlike true one two = one ≡ two
 AreAlike false (Some one) (Some two) = one ≡ two

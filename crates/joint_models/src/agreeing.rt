@@ -120,7 +120,8 @@ fn earliest(
     )
 }
 
-// The same among the names of a list and an earlier name, if there was one.
+// The first of the names of a list about which the vocabularies disagree, or the one found before
+// if that comes first.
 fn earlier_among(
     alloc: Global,
     group: Group,
@@ -144,7 +145,7 @@ fn earlier_among(
     Ok(least)
 }
 
-// Of a name, if there was one, and a further name the one that comes first.
+// The earlier of two names, of which the first may be absent.
 fn earlier(least: Option<Text>, name: Text) -> Text
     ensures { result ≡ earlier_of least name }
 {

@@ -38,7 +38,7 @@ impl Listed {
         Ok(Listed { entries, places })
     }
 
-    /// The number of the entry with a name, or how many entries there are.
+    /// The number of the entry with a name, or the number of entries if none has it.
     pub(crate) fn number(&self, name: &Text) -> usize
         ensures { result ≡ number_of (names self.now.entries) name.now }
     {
@@ -68,7 +68,7 @@ impl Listed {
     }
 }
 
-/// Types or objects, each with its one type, the parent or its own.
+/// Types or objects, each with one type: a type's parent, or the object's own type.
 pub(crate) fn typed_entries(
     alloc: Global,
     list: &List<(Text, u32)>,

@@ -93,8 +93,8 @@ fn schema_for(
     rename_schema(alloc, other.numbers, other.model.schemas.item(number))
 }
 
-// The numbers of the actions that a list lacks. Memory has no room for more numbers than 32 bits
-// give.
+// The numbers of the actions that a list lacks. Numbers past 32 bits count as running out of
+// memory.
 fn unknown_among(
     alloc: Global,
     known: &Listed,

@@ -10,7 +10,7 @@ use model_kit::Signature;
 use mre_base::{List, NoMemory};
 use std::alloc::Global;
 
-/// Of each word of one vocabulary its number in another.
+/// For each word of one vocabulary, its number in another.
 pub(crate) struct Numbers {
     pub(crate) objects: List<u32>,
     pub(crate) predicates: List<u32>,
@@ -39,8 +39,8 @@ impl Numbers {
     }
 }
 
-/// The numbers of the names of a list among other entries. Memory has no room for more numbers than
-/// 32 bits give.
+/// The numbers that the names of a list have among other entries. Numbers past 32 bits count as
+/// running out of memory.
 pub(crate) fn numbers_between(
     alloc: Global,
     from: &List<Signature>,

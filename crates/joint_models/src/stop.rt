@@ -5,7 +5,7 @@ ghost use Rattle.joint_models.specs.declared.stop.PairStop.TheVariants.{NoMemory
 
 use mre_base::{NoMemory, Text};
 
-/// The first disagreement of two models: what either has there, or `none`.
+/// The first disagreement of two models: what each of them has there, or `none`.
 #[derive(Debug)]
 pub struct PairFault {
     pub planner: Text,

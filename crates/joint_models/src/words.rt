@@ -35,7 +35,7 @@ pub(crate) fn joint_words(
     })
 }
 
-// What the planner lists, and after it what the user alone does, its types by new numbers.
+// What the planner lists, and after it what only the user lists, with types by new numbers.
 fn joined(
     alloc: Global,
     planner: &Listed,

@@ -1,4 +1,4 @@
--- Words with which small models are told.
+-- Definitions from which small models are built.
 use Rattle.std.specs.Prelude.{ℕ, List, [], ◌∷◌, map, codes}
 use Rattle.model_kit.specs.declared.vocabulary.Signature.{Signature}
 use Rattle.model_kit.specs.declared.model.Schema.{Schema}

@@ -1,4 +1,4 @@
--- Two models that number their names otherwise, and their joint vocabulary.
+-- Two models that number their names differently, and their joint vocabulary.
 use Rattle.std.specs.Prelude.{ℕ, [], ◌∷◌, codes, refl}
 use Rattle.model_kit.specs.declared.vocabulary.Vocabulary.{Vocabulary}
 use Rattle.model_kit.specs.declared.model.Model.{Model}

@@ -1,4 +1,4 @@
--- Two models of which two further facts only together let a cheaper list run.
+-- Two models where two further facts let a cheaper list run, but only together.
 use Rattle.std.specs.Prelude.{ℕ, List, [], ◌∷◌, codes, refl}
 use Rattle.model_kit.specs.declared.vocabulary.Vocabulary.{Vocabulary}
 use Rattle.model_kit.specs.declared.model.Model.{Model}

@@ -1,4 +1,4 @@
-//! Names, vocabularies and models: lists that are one, and lists that aren't.
+//! Names, vocabularies and models: lists that make one, and lists that don't.
 
 ghost use Rattle.std.specs.Prelude.{◌≡◌, ◌==◌, true, false, [], ◌∷◌, codes};
 ghost use Rattle.std.specs.Cmp.Lexicographic.{pointwise};

@@ -194,7 +194,7 @@ module _ (words : Vocabulary) where
   objects_listed : (signatures : List Signature) (n : ℕ) (objects : List ℕ) → fits_signature (is_object_of words) signatures n objects ≡ true → (k d : ℕ) → k < length objects → IsListed (get_or objects k d)
   objects_listed signatures n objects fit k d lt = let at = each_arg_fits (is_object_of words) signatures n objects fit k d lt in object_listed words (get_or objects k d) at.0 at.1
 
-  -- two ground atoms with one printed form are one
+  -- two ground atoms with the same printed form are equal
   pub atom_form-injective : (a b : GroundAtom) → IsTrue (is_ground_atom words a) → IsTrue (is_ground_atom words b) → atom_form words a ≡ atom_form words b → a ≡ b
   atom_form-injective a b fit other e =
       let parts = read_back (object_name words) IsListed object_plain object_apart words.predicates (predicates_named words) a.predicate b.predicate
@@ -202,7 +202,7 @@ module _ (words : Vocabulary) where
       a.objects b.objects (objects_listed words.predicates a.predicate a.objects fit) (objects_listed words.predicates b.predicate b.objects other) e in
       λ i. record { predicate = parts.0 i; objects = parts.1 i }
 
-  -- the same of a function at objects
+  -- likewise two functions at objects
   pub function_form-injective : (f g : ℕ) (xs ys : List ℕ) → fits_signature (is_object_of words) words.functions f xs ≡ true → fits_signature (is_object_of words) words.functions g ys ≡ true
       → form (name_of words.functions f) (map (object_name words) xs) ≡ form (name_of words.functions g) (map (object_name words) ys) → (f ≡ g) × (xs ≡ ys)
   function_form-injective f g xs ys fit other e =
@@ -261,7 +261,7 @@ module _ (words : Vocabulary) where
   terms_printable params few signatures n args fit k d lt =
       let at = each_arg_fits (is_term_of words params) signatures n args fit k d lt in term_printable params few (get_or args k d) at.0 at.1
 
-  -- two atoms of one schema with one printed form are one
+  -- two atoms of one schema with the same printed form are equal
   pub schema_atom_form-injective : (params : List ℕ) → length params < 2 ^ 64 → (f g : SchemaAtom) → IsTrue (is_schema_atom words params f) → IsTrue (is_schema_atom words params g)
       → schema_atom_form words f ≡ schema_atom_form words g → f ≡ g
   schema_atom_form-injective params few f g fit other e =

@@ -14,7 +14,7 @@ args_form_more name begin old new xs i d lt before now =
     ∙ flat_map_more (λ arg. codes " " ++ arg) begin (map name (take i xs)) (name (get_or xs i d))
     ∙ ap (λ args. begin ++ args_form args) (sym (map-append name (take i xs) (get_or xs i d ∷ [])) ∙ ap (map name) (sym (take_more xs i d lt)))
 
--- the same where the argument is the item at the place
+-- likewise where the argument is the item at the place
 pub args_form_item : {X : Type 0} (name : X → List ℕ) (begin old new : List ℕ) (xs : List X) (i : ℕ) (x : X) → slice_get xs i ≡ Some x
     → old ≡ begin ++ args_form (map name (take i xs)) → new ≡ old ++ (codes " " ++ name x) → new ≡ begin ++ args_form (map name (take (i + 1) xs))
 args_form_item name begin old new xs i x at before now =

@@ -73,7 +73,7 @@ module _ (words : Vocabulary) (planner user : Model) (places : List Place) (weig
       (λ not_each. inr (λ monotonic. not_each (λ more within has. monotonic more within has)))
       (each_known d (set.is_subset told) (IsComplete task) (λ more within. complete_known more))
 
-  -- of two firsts neither is before the other, so they are one
+  -- of two firsts neither is before the other, so they are equal
   first_once : (P : set.FinSet nat_cmp → Type 0) → AtMostOne (IsFirst task P)
   first_once P a b one two =
       ⊎_elim (λ same. same)

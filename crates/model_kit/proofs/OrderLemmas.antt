@@ -137,12 +137,12 @@ contains_numbers d told within q =
     (λ away. away ∙ sym (among_filter (set.contains told) q (range_with_len 1 d) ∙ and_right (is_among q (range_with_len 1 d)) (set.contains told q) away))
     (cases_Bool (set.contains told q))
 
--- two sets within 1 to d with the same listed numbers are one
+-- two sets within 1 to d with the same listed numbers are equal
 pub same_numbers_same_set : (d : ℕ) (a b : set.FinSet nat_cmp) → Within d a → Within d b → numbers d a ≡ numbers d b → a ≡ b
 same_numbers_same_set d a b within_a within_b same =
     set.same_set nat_cmp_total set.nat_cmp-IsAntisymmetric a b (λ q. contains_numbers d a within_a q ∙ ap (is_among q) same ∙ sym (contains_numbers d b within_b q))
 
--- of two sets within 1 to d, they are one, or one is before the other
+-- two sets within 1 to d are equal, or one is before the other
 pub before_total : (weights : List ℕ) (a b : set.FinSet nat_cmp) → Within (length weights) a → Within (length weights) b → (a ≡ b) ⊎ ((is_before weights a b ≡ true) ⊎ (is_before weights b a ≡ true))
 before_total weights a b within_a within_b =
     ⊎_elim (λ same. inl (same_numbers_same_set (length weights) a b within_a within_b same)) (λ apart. inr apart)

@@ -50,7 +50,7 @@ module _ (model : Meaning) where
   leads_alike Q R gives s t alike (action ∷ actions) leads =
       (applies_alike s t action alike leads.0, leads_alike Q R gives (After model s action) (After model t action) (after_alike s t action alike) actions leads.1)
 
--- where two lists are split at one place they are split alike
+-- two splits of a list at the same place are equal
 pub split_same : {X : Type 0} (b c : List X) (x y : X) (after more : List X) → length b ≡ length c → b ++ x ∷ after ≡ c ++ y ∷ more → (b ≡ c) × (x ≡ y)
 split_same [] [] x y after more same e = let head : x ≡ y = cc in (refl, head)
 split_same [] (z ∷ c) x y after more same e = absurd (omega arith)

@@ -7,6 +7,7 @@ use Rattle.std.specs.Cmp.{unsigned_ties, both_tied}
 use Rattle.std.specs.Cmp.Lexicographic.{slice_cmp, texts_ties}
 use Rattle.std.specs.BTreeSet.{BTreeSet, Updates}
 use Rattle.std.proofs.lemmas.Bool.Decides.{same_from_decides, Decides-like}
+use Rattle.std.proofs.Math.Bool.{or_assoc}
 use Rattle.model_kit.specs.declared.atom.GroundAtom.{GroundAtom}
 use Rattle.model_kit.specs.declared.atom.SchemaAtom.{SchemaAtom}
 use Rattle.model_kit.specs.declared.values.FunctionTerm.{FunctionTerm}
@@ -82,10 +83,6 @@ module _ (objects : List ℕ) (xs : List SchemaAtom) (i : ℕ) (x : SchemaAtom) 
       ∙ ap (λ b. b || same_atom atom key) (before atom)
       ∙ or_assoc (kept atom) (list_any (same_atom atom) (atoms_of (take i xs))) (same_atom atom key)
       ∙ ap (λ b. kept atom || b) (one_more atom)
-    where
-      or_assoc : (a b c : Bool) → ((a || b) || c) ≡ (a || (b || c))
-      or_assoc true b c = refl
-      or_assoc false b c = refl
 
 -- one more of the initial facts is in
 pub start_more : (xs : List GroundAtom) (i : ℕ) (x : GroundAtom) → slice_get xs i ≡ Some x → (key : GroundAtom) → key ≡ x → (old new : BTreeSet GroundAtom)

@@ -16,16 +16,12 @@ use Rattle.model_kit.specs.Types.{parent, ancestor, is_of_type}
 use Rattle.model_kit.specs.Vocabulary.{is_object_of, is_term_of, fits_signature}
 use Rattle.model_kit.specs.Runs.{object_of}
 use Rattle.mre_base.proofs.Loops.{All_item}
+use Rattle.mre_base.proofs.ListOrder.{range-list_any}
 use Rattle.model_kit.proofs.WordFacts.{TypeFacts, type_listed, facts_of_words}
 
 -- a test passes at a number of a range
-some_from : (p : ℕ → Bool) (a n : ℕ) → list_any p (range_with_len a n) ≡ true → (k : ℕ) × (k < a + n) × (p k ≡ true)
-some_from p a zero e = absurd (true≢false (sym e))
-some_from p a (suc n) e =
-    ⊎_elim (λ here. (a, omega arith, here)) (λ later. let at = some_from p (a + 1) n later in (at.0, omega (arith, at.1), at.2)) (or_cases (p a) (list_any p (range_with_len (a + 1) n)) e)
-
 pub some_below : (p : ℕ → Bool) (n : ℕ) → list_any p (range_with_len 0 n) ≡ true → (k : ℕ) × (k < n) × (p k ≡ true)
-some_below p n e = let at = some_from p 0 n e in (at.0, omega (arith, at.1), at.2)
+some_below p n e = let at = range-list_any p 0 n e in (at.0, omega (arith, at.2), at.3)
 
 pub any_below : (p : ℕ → Bool) (n k : ℕ) → k < n → p k ≡ true → list_any p (range_with_len 0 n) ≡ true
 any_below p n k lt e =
@@ -91,7 +87,7 @@ module _ (types : List (List ℕ × ℕ)) where
     top_stays zero = refl
     top_stays (suc m) = ap (parent types) (top_stays m) ∙ top_parent
 
-    past_the_top : (type k m : ℕ) → k ≤ m → ancestor types k type ≡ 0 → ancestor types m type ≡ 0
+    pub past_the_top : (type k m : ℕ) → k ≤ m → ancestor types k type ≡ 0 → ancestor types m type ≡ 0
     past_the_top type k m le at_k =
         let split : m ≡ (m - k) + k = omega arith in
         ap (λ j. ancestor types j type) split ∙ ancestor-add (m - k) k type ∙ ap (ancestor types (m - k)) at_k ∙ top_stays (m - k)

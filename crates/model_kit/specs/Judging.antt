@@ -49,8 +49,7 @@ ArePlaced objects terms = All (λ term. (i : ℕ) → term ≡ Param i → i < l
 abbrev pub IsMissing : List GroundAtom → BTreeSet GroundAtom → GroundAtom → Type 0
 IsMissing atoms state atom = Contains atoms atom × ¬ StateOf state atom
 
--- of a place with its text, if there is one yet, and a further place with its text, the one whose
--- text comes first
+-- the place whose text comes first: the earliest so far, if there is one, or a further place
 abbrev pub earlier_of : Option (ℕ × List ℕ) → ℕ → List ℕ → Option (ℕ × List ℕ)
 earlier_of None place text = Some (place, text)
 earlier_of (Some best) place text =
@@ -64,7 +63,7 @@ Changes objects dels adds old new =
     && not (list_any (same_atom atom) (map (instance objects) dels)))
     || list_any (same_atom atom) (map (instance objects) adds))
 
--- what became of one step
+-- the outcome of one step
 abbrev pub Steps : Vocabulary → Meaning → GroundAction → BTreeSet GroundAtom → BTreeSet GroundAtom
     → Step → Type 0
 Steps words model action old new (Taken price) =

@@ -1,5 +1,5 @@
--- Laws of explanations: when there are an MCE and an MME, that each is the only one, and how the two
--- compare.
+-- Laws of explanations: when there are an MCE and an MME, that each is the only one, and how the
+-- two compare.
 use Rattle.std.specs.Prelude.{ℕ, ◌≡◌, ◌≤◌, List, length, All, IsFalse}
 use Rattle.std.specs.Ordering.{nat_cmp}
 use Rattle.std.specs.FinSet as set

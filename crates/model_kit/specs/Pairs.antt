@@ -62,11 +62,11 @@ type_in from to type = number_of (map (λ entry. entry.0) to.types) (type_name f
 abbrev pub object_in : Vocabulary → Vocabulary → ℕ → ℕ
 object_in from to object = number_of (map (λ entry. entry.0) to.objects) (object_name from object)
 
--- the same of a predicate, a function or an action
+-- likewise the number of a predicate, a function or an action
 abbrev pub signature_in : (Vocabulary → List Signature) → Vocabulary → Vocabulary → ℕ → ℕ
 signature_in part from to n = number_of (names (part to)) (name_of (part from) n)
 
--- what the planner has, and after it what the user alone has, in the user's order
+-- what the planner has, and after it what only the user has, in the user's order
 abbrev pub joined : (Vocabulary → List Signature) → Vocabulary → Vocabulary → List Signature
 joined part planner user =
     part planner

@@ -1,6 +1,6 @@
--- What a model is: each of its places has a feature that is on or off, a cost expression, or the value
--- of a function. The features are those of action schemas in place of their ground instances; apart
--- from that they are after Chakraborti et al., IJCAI 2017.
+-- What a model is: each of its places has a feature that is on or off, a cost expression, or the
+-- value of a function. The features are those of action schemas in place of their ground instances;
+-- apart from that they are after Chakraborti et al., IJCAI 2017.
 use Rattle.std.specs.Prelude.{ℕ, ◌==◌, ◌&&◌, not, nat_lt, Bool, false, List, [], ◌∷◌, length}
 use Rattle.std.specs.Prelude.{Option, None, Some, slice_get, if◌then◌else◌}
 use Rattle.std.specs.List.{list_any}

@@ -1,6 +1,6 @@
 -- Steps, valid plans, their costs, and cheapest plans (STRIPS, Fikes and Nilsson 1971, with the
 -- action costs of PDDL).
--- A state is told by the atoms that are true in it.
+-- A state is given by the atoms that are true in it.
 use Rattle.std.specs.Prelude.{ℕ, ◌≡◌, ◌≤◌, ◌⊎◌, Bool, false, IsTrue, if◌then◌else◌, List, [], ◌∷◌}
 use Rattle.std.specs.Prelude.{Option, None, Some, IsSome, map, All, sum_by, unwrap_or, slice_index}
 use Rattle.model_kit.specs.declared.vocabulary.Vocabulary.{Vocabulary}

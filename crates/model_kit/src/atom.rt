@@ -50,7 +50,8 @@ impl Eq for GroundAtom {
 
 /// By predicate number, and then by the objects' numbers.
 impl Ord for GroundAtom {
-    ghost cmp = { then_cmp (on (λ a. a.predicate) nat_cmp) (on (λ a. a.objects) (slice_cmp nat_cmp)) };
+    ghost cmp = { then_cmp (on (λ a. a.predicate) nat_cmp)
+        (on (λ a. a.objects) (slice_cmp nat_cmp)) };
 
     ghost total = { Prim.search (comparing, rules) };
 
@@ -66,9 +67,12 @@ impl Ord for GroundAtom {
 }
 
 impl PartialOrd for GroundAtom {
-    ghost partial_cmp = { as_partial_cmp (then_cmp (on (λ a. a.predicate) nat_cmp) (on (λ a. a.objects) (slice_cmp nat_cmp))) };
+    ghost partial_cmp = { as_partial_cmp
+        (then_cmp (on (λ a. a.predicate) nat_cmp) (on (λ a. a.objects) (slice_cmp nat_cmp))) };
 
-    ghost laws = { partial_order_from_own_ties (Prim.search (comparing, rules)) (Prim.search (comparing, rules)) };
+    ghost laws = { partial_order_from_own_ties
+        (Prim.search (comparing, rules))
+        (Prim.search (comparing, rules)) };
 
     fn partial_cmp(&self, other: &GroundAtom) -> Option<Ordering> {
         Some(self.cmp(other))

@@ -18,7 +18,7 @@ use crate::{CostExpr, GroundAtom, Model, Schema, SchemaAtom, Signature, Term, Vo
 use mre_base::{List, Text};
 
 impl Vocabulary {
-    /// The vocabulary with these lists, where they are one's. Types are numbered by their places.
+    /// The vocabulary with these lists, if they make one. Types are numbered by their places.
     pub fn checked(
         types: List<(Text, u32)>,
         objects: List<(Text, u32)>,
@@ -129,7 +129,7 @@ fn are_below(numbers: &[u32], bound: usize) -> bool
 }
 
 impl Model {
-    /// The model with this vocabulary and these lists, where they are one's.
+    /// The model with this vocabulary and these lists, if they make one.
     pub fn checked(
         words: Vocabulary,
         init: List<GroundAtom>,
@@ -232,7 +232,7 @@ impl<'a> Entry<Scope<'a>> for SchemaAtom {
     }
 }
 
-/// Whether two lists of terms are one.
+/// Whether two lists of terms are equal.
 pub fn are_same_terms(one: &List<Term>, other: &List<Term>) -> bool
     ensures { result ≡ pointwise same_term one.now other.now }
 {

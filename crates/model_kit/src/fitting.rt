@@ -84,7 +84,7 @@ pub fn is_object_of(words: &Vocabulary, object: u32, above: u32) -> bool
         )
 }
 
-// The same of a term in a schema with these parameters.
+// Whether a term of a schema with these parameters is of a type or of one below it.
 fn is_term_of(words: &Vocabulary, params: &List<u32>, term: Term, above: u32) -> bool
     ensures { result ≡ term_below words.now params.now term above }
 {

@@ -13,7 +13,7 @@ use mre_base::{List, NoMemory, Text};
 use std::alloc::Global;
 use std::collections::{BTreeMap, BTreeSet};
 
-/// What is to be said of a plan in a model. Steps are counted from 1.
+/// The judgement of a plan in a model. Steps are counted from 1.
 #[derive(Debug, Drop)]
 pub enum NamedJudgement {
     /// Each step applies, the goal holds at the end, and the steps cost this much together.
@@ -54,7 +54,7 @@ pub fn judge_names(alloc: Global, model: &Model, plan: &Plan) -> Result<NamedJud
     }
 }
 
-// What became of one step.
+// The outcome of one step.
 #[derive(Drop)]
 enum Step {
     Taken { cost: u32 },
@@ -117,8 +117,7 @@ fn first_missing(
     Ok(Some(atom))
 }
 
-// Of a place with its text, if there is one yet, and a further place with its text, the one whose
-// text comes first.
+// The place whose text comes first: the earliest so far, if there is one, or a further place.
 fn earlier(best: Option<(usize, Text)>, place: usize, text: Text) -> Option<(usize, Text)>
     ensures { result ≡ earlier_of best place text }
 {

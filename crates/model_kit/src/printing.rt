@@ -105,7 +105,7 @@ fn with_objects(
     closed(alloc, text)
 }
 
-// The same of terms of some schema.
+// `(NAME T1 T2)` of the signature with a number and of terms of a schema.
 fn with_terms(
     alloc: Global,
     words: &Vocabulary,

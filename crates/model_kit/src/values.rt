@@ -40,7 +40,8 @@ impl Eq for FunctionTerm {
 }
 
 impl Ord for FunctionTerm {
-    ghost cmp = { then_cmp (on (λ t. t.function) nat_cmp) (on (λ t. t.objects) (slice_cmp nat_cmp)) };
+    ghost cmp = { then_cmp (on (λ t. t.function) nat_cmp)
+        (on (λ t. t.objects) (slice_cmp nat_cmp)) };
 
     ghost total = { Prim.search (comparing, rules) };
 
@@ -56,17 +57,20 @@ impl Ord for FunctionTerm {
 }
 
 impl PartialOrd for FunctionTerm {
-    ghost partial_cmp = { as_partial_cmp (then_cmp (on (λ t. t.function) nat_cmp) (on (λ t. t.objects) (slice_cmp nat_cmp))) };
+    ghost partial_cmp = { as_partial_cmp
+        (then_cmp (on (λ t. t.function) nat_cmp) (on (λ t. t.objects) (slice_cmp nat_cmp))) };
 
-    ghost laws = { partial_order_from_own_ties (Prim.search (comparing, rules)) (Prim.search (comparing, rules)) };
+    ghost laws = { partial_order_from_own_ties
+        (Prim.search (comparing, rules))
+        (Prim.search (comparing, rules)) };
 
     fn partial_cmp(&self, other: &FunctionTerm) -> Option<Ordering> {
         Some(self.cmp(other))
     }
 }
 
-/// The values of a model, for look-ups. Where a function stood twice at the same objects, the first
-/// value would count.
+/// The values of a model, for look-ups. If a function were listed twice at the same objects, the
+/// first value would count.
 pub fn value_table(
     alloc: Global,
     values: &List<(u32, List<u32>, u32)>,

@@ -1,4 +1,4 @@
-//! Names, atoms and costs in their printed forms. What has no name is printed as `?`.
+//! The printed forms of names, atoms and costs. A number without a name is printed as `?`.
 use model_kit::{CostExpr, SchemaAtom, Signature, Term, Vocabulary};
 use mre_base::{List, NoMemory, Text};
 
@@ -22,7 +22,7 @@ fn word_name(signatures: &List<Signature>, number: u32) -> &str {
     }
 }
 
-/// Puts a name with the types of its parameters at the end, as `at (truck place)`.
+/// Appends a name with the types of its parameters, as `at (truck place)`.
 pub fn put_signature(
     text: &mut String,
     types: &List<(Text, u32)>,
@@ -40,7 +40,7 @@ pub fn put_signature(
     Ok(())
 }
 
-/// Puts a name with objects at the end, as `(at truck mill)`.
+/// Appends a name with objects, as `(at truck mill)`.
 pub fn put_objects(
     text: &mut String,
     words: &Vocabulary,
@@ -57,7 +57,7 @@ pub fn put_objects(
     Ok(())
 }
 
-// Puts a name with terms at the end, as `(at ?1 mill)`.
+// Appends a name with terms, as `(at ?1 mill)`.
 fn put_terms(
     text: &mut String,
     words: &Vocabulary,
@@ -76,7 +76,7 @@ fn put_terms(
     Ok(())
 }
 
-/// Puts a line for each atom at the end, behind the same word.
+/// Appends a line for each atom, each beginning with this word.
 pub fn put_atoms(
     text: &mut String,
     words: &Vocabulary,
@@ -92,7 +92,7 @@ pub fn put_atoms(
     Ok(())
 }
 
-/// Puts a cost at the end.
+/// Appends a cost.
 pub fn put_cost(text: &mut String, words: &Vocabulary, cost: &CostExpr) -> Result<(), NoMemory> {
     match cost {
         CostExpr::Number(number) => {

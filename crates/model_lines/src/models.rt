@@ -1,4 +1,4 @@
-//! What a domain, a model or a plan holds, a line each.
+//! The lines of a domain, a model or a plan.
 use crate::forms::{entry_name, put_atoms, put_cost, put_objects, put_signature};
 use model_kit::{GroundAtom, Model, Plan, Signature, Vocabulary};
 use mre_base::{List, NoMemory, Text};
@@ -63,7 +63,7 @@ fn put_body(text: &mut String, words: &Vocabulary, body: &Body) -> Result<(), No
     Ok(())
 }
 
-/// What a domain holds.
+/// The lines of a domain.
 pub fn domain_text(alloc: Global, domain: &Domain) -> Result<String, NoMemory> {
     let mut text = String::new(alloc);
     put_words(&mut text, &domain.words)?;
@@ -137,7 +137,7 @@ fn put_values(text: &mut String, model: &Model) -> Result<(), NoMemory> {
     Ok(())
 }
 
-/// What the model of a problem holds.
+/// The lines of the model of a problem.
 pub fn model_text(alloc: Global, model: &Model) -> Result<String, NoMemory> {
     let mut text = String::new(alloc);
     put_words(&mut text, &model.words)?;
@@ -148,7 +148,7 @@ pub fn model_text(alloc: Global, model: &Model) -> Result<String, NoMemory> {
     Ok(text)
 }
 
-/// What a plan holds: a line for each step.
+/// The lines of a plan, one for each step.
 pub fn plan_text(alloc: Global, words: &Vocabulary, plan: &Plan) -> Result<String, NoMemory> {
     let mut text = String::new(alloc);
     for place in 0..plan.steps.len() {

@@ -62,7 +62,7 @@ fn assert_judged(rt: &impl Abort, alloc: Global, model: &Model, rows: &str) -> R
     Ok(())
 }
 
-// The same over the model of two texts.
+// The same for the model of a domain's text and a problem's text.
 fn assert_judgements(
     rt: &impl Abort,
     alloc: Global,

@@ -1,5 +1,5 @@
-//! What is said of models: judgements of plans, from texts of PDDL, and which lists are a
-//! vocabulary's or a model's.
+//! Tests of models: judgements of plans in models from texts of PDDL, and which lists make a
+//! vocabulary or a model.
 #![tactic(auto)]
 
 #[cfg(test)]

@@ -1,4 +1,4 @@
-//! Tests of vocabularies and models: lists that are one, and lists that aren't.
+//! Tests of vocabularies and models: lists that make one, and lists that don't.
 
 mod making;
 mod rows;

@@ -25,8 +25,8 @@ ReachLaw =
     → AreRulesOf models world → rules.ListsReachable world limits reached →
     ListsReachable models reached.atoms reached.actions
 
--- whatever is told, lists of numbers run in the table of the reachable atoms and actions as lists of
--- ground actions run in the models
+-- whatever is told, lists of numbers run in the table of the reachable atoms and actions as lists
+-- of ground actions run in the models
 abbrev pub RunLaw : Type 0
 RunLaw =
     (models : Models) (atoms : List GroundAtom) (actions : List GroundAction) (table : CaseTable)

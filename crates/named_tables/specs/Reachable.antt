@@ -1,5 +1,6 @@
 -- The reachable atoms and actions of two models, where both models help and nothing is ever made
--- false (delete relaxation, Bonet and Geffner 2001): the least collection that is closed in this way.
+-- false (delete relaxation, Bonet and Geffner 2001): the least collection that is closed in this
+-- way.
 use Rattle.model_kit.specs.declared.atom.GroundAtom.{GroundAtom}
 use Rattle.model_kit.specs.declared.atom.SchemaAtom.{SchemaAtom}
 use Rattle.model_kit.specs.declared.action.GroundAction.{GroundAction}

@@ -8,10 +8,10 @@ pub fn law_reachable()
     ensures { ReachLaw }
 {}
 
-/// In a table of two models that lists the reachable atoms and actions, a list of numbers is to each
-/// member what the list of ground actions with these numbers is to the user's model after the same
-/// differences: valid there exactly where it is valid here, at the same cost, and cheapest there
-/// exactly where it is cheapest here. Every valid list has numbers.
+/// In a table of two models that lists the reachable atoms and actions, a list of numbers is to
+/// each member what the list of ground actions with these numbers is to the user's model after the
+/// same differences: valid there exactly where it is valid here, at the same cost, and cheapest
+/// there exactly where it is cheapest here. Every valid list has numbers.
 pub fn law_runs()
     ensures { RunLaw }
 {}
@@ -22,8 +22,8 @@ pub fn law_priced()
     ensures { PricedLaw }
 {}
 
-/// Two models where the user believes one fact too many, their reachable atoms and actions, and their
-/// table.
+/// Two models where the user believes one fact too many, their reachable atoms and actions, and
+/// their table.
 pub fn law_example()
     ensures { ExampleLaw }
 {}

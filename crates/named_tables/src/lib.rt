@@ -1,5 +1,5 @@
-//! Two models and one table on numbers: the reachable atoms and actions, when a table is theirs, and
-//! that lists of numbers run in it as lists of ground actions run in the models.
+//! Two models and one table on numbers: the reachable atoms and actions, when a table is theirs,
+//! and that lists of numbers run in it as lists of ground actions run in the models.
 #![tactic(auto)]
 
 mod laws;

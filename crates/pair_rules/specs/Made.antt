@@ -24,7 +24,7 @@ abbrev pub is_pre : ℕ → SchemaAtom → List Difference → Bool
 is_pre action atom differences =
     is_some (number_from 0 (places_of differences) (place.Pre action atom))
 
--- what the action adds in the user's model alone, by the difference
+-- the atom that the action adds only in the user's model, by the difference
 abbrev pub user_add : ℕ → Difference → Option SchemaAtom
 user_add action (Add at atom false) = if at == action then Some atom else None
 user_add action _ = None
@@ -54,7 +54,7 @@ abbrev pub is_known : Model → Model → ℕ → Bool
 is_known planner user action =
     is_on (meaning planner (Knows action)) || is_on (meaning user (Knows action))
 
--- the preconditions that both models have, what either adds, and the costs of both
+-- the preconditions that both models have, and the adds and the costs of both
 abbrev pub needs_of : List Difference → ℕ → Schema → List SchemaAtom
 needs_of differences action schema =
     filter (λ atom. not (is_pre action atom differences)) schema.pre
@@ -90,8 +90,8 @@ pub record AreRulesMade (planner user : Model) (differences : List Difference) (
   pub each : (action : ℕ) (rule : Rule) → slice_get rules action ≡ Some rule
       → IsRuleMade planner user differences action rule
 
--- the world is made of the objects of the types that parameters have, of the initial facts and values
--- of both models, and of the rules of all actions
+-- the world is made of the objects of the types that parameters have, of the initial facts and
+-- values of both models, and of the rules of all actions
 pub record IsWorldMade (planner user : Model) (differences : List Difference)
     (world : World) : Type 0 where
   pub fitting : IsFitting planner.words world.fitting

@@ -1,6 +1,5 @@
-//! The objects of each parameter's type.
+//! The objects of each type that a parameter of an action has.
 
-// The objects of each type that a parameter of an action has.
 ghost use Rattle.std.specs.Prelude.{ℕ, ◌≡◌, ◌<◌, true, length, filter, All, Contains, IfOk};
 ghost use Rattle.std.specs.List.{range_with_len};
 ghost use Rattle.std.specs.FinSet as set;

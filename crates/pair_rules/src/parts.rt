@@ -1,7 +1,7 @@
 //! What rules are made of: preconditions, adds, facts, costs and values of both models.
 
-// The lists of a rule and of a world: what the planner's model has, by the differences what the
-// user's has in its place or beside it.
+// The lists of a rule and of a world: what the planner's model has and, by the differences, what
+// the user's has instead of it or beside it.
 ghost use Rattle.std.specs.Prelude.{◌≡◌, ◌∷◌, [], ◌++◌, Some, None, map, filter, not, IfOk, IfSome};
 ghost use Rattle.std.specs.Prelude.{IfNone};
 ghost use Rattle.std.specs.List.{filter_map};
@@ -21,7 +21,7 @@ fn differs(action: u32, atom: &SchemaAtom, differences: &List<Difference>) -> bo
     place_at(atom, &ActionPart { action, part }, differences).is_some()
 }
 
-// What the action adds in the user's model alone, by the difference.
+// The atom that the action adds only in the user's model, by the difference.
 fn user_add(action: u32, difference: &Difference) -> Option<&SchemaAtom>
     ensures some { IfSome result (λ atom. added_alone action difference.now ≡ Some atom.now) }
     ensures none { IfNone result (added_alone action difference.now ≡ None) }
@@ -159,7 +159,7 @@ pub(crate) fn costs_of(
 }
 
 /// The functions at objects that have a value in the planner's model, and those that have one in
-/// the user's where there is another in the planner's or none.
+/// the user's where the planner's has another or none.
 pub(crate) fn keys_of(
     alloc: Global,
     values: &List<(u32, List<u32>, u32)>,

@@ -27,7 +27,8 @@ abbrev pub features : {F : Type 0} → (F → Option ℕ) → List F → List F 
 features number_of planner user =
     map (planner_feature number_of) planner ++ filter_map (user_feature number_of) user
 
--- the list has each feature of the kind that a model has, with the condition under which it is there
+-- the list has each feature of the kind that at least one model has, with the condition under which
+-- it is there
 pub record AreFeatures (models : Models) (F : Type 0) (place : F → Place)
     (list : List (F × When)) : Type 0 where
   pub each : (feature : F × When) → Contains list feature

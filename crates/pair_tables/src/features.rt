@@ -1,6 +1,5 @@
 //! Features of two models with the condition under which each is there.
 
-// What two models have of one kind, each with the condition under which it is there.
 ghost use Rattle.std.specs.Prelude.{◌≡◌, ◌≤◌, map, length, IfOk};
 ghost use Rattle.model_kit.specs.Differences.{number_from};
 ghost use Rattle.feature_diff.specs.Differing.{places_of};
@@ -56,8 +55,7 @@ fn planner_features<K, T: Spot<K>>(
     Ok(made)
 }
 
-/// The features of the planner's list, and after them those of the user's that the planner's model
-/// hasn't.
+/// The features of the planner's list, and after them those that only the user's list has.
 pub(crate) fn features_of<K, T: Spot<K>>(
     alloc: Global,
     kind: &K,

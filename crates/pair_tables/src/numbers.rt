@@ -10,8 +10,8 @@ use mre_base::{List, NoMemory};
 use std::alloc::Global;
 use std::collections::BTreeMap;
 
-/// The number of each listed atom, its place in the list, and the count of all, which is the number
-/// of every other.
+/// The number of each listed atom, which is its place in the list, and the count of all listed
+/// atoms, which is the number of every other atom.
 pub(crate) struct AtomNumbers {
     places: BTreeMap<GroundAtom, u32>,
     count: u32,

@@ -1,6 +1,5 @@
 //! The cost cases of ground actions.
 
-// What ground actions cost in two models.
 ghost use Rattle.std.specs.Prelude.{◌≡◌, ◌≤◌, length, IfOk};
 ghost use Rattle.model_kit.specs.Judging.{IsTableOf};
 ghost use Rattle.model_kit.specs.Places.{Price, Value};

@@ -115,11 +115,9 @@ fn all_cases(
     Ok(made)
 }
 
-/// The table of two models over lists of the atoms and the ground actions that may be reached in
-/// them: an atom has the number of its
-/// place in the list, an action the number of its own, and each condition names the difference on
-/// the feature. `NoMemory` leaves all as
-/// it was; more than 32 bits of action schemas count as want of memory.
+/// The table of two models over lists of their reachable atoms and ground actions: each is numbered
+/// by its place in its list, and each condition names the difference on the feature. `NoMemory`
+/// leaves all as it was; more than 32 bits of action schemas count as running out of memory.
 pub fn table_of(
     alloc: Global,
     pair: &Pair,

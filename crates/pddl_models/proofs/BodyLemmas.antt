@@ -8,6 +8,7 @@ use Rattle.std.specs.Cmp.Lexicographic.{pointwise}
 use Rattle.std.proofs.lemmas.Bool.{true≢false, and_from}
 use Rattle.std.proofs.lemmas.List.Elements.{All-head, All-tail}
 use Rattle.mre_base.specs.declared.text.Text.{Text}
+use Rattle.mre_base.proofs.Tests.{all_four}
 use Rattle.model_kit.specs.declared.model.CostExpr.{CostExpr}
 use Rattle.model_kit.specs.declared.model.CostExpr.TheVariants.{Number, Call}
 use Rattle.model_kit.specs.declared.vocabulary.Signature.{Signature}
@@ -27,6 +28,7 @@ use Rattle.pddl_names.specs.Heads.{is_head}
 use Rattle.pddl_names.specs.Listings.{Typed, Declared, nothing, declared, first_of, terms_behind, action_params, types_of}
 use Rattle.pddl_names.specs.Naming.{is_action, action_words, due_types, IsNamed}
 use Rattle.pddl_names.specs.Params.{is_action_name}
+use Rattle.pddl_names.proofs.ParamTypes.{action_name}
 use Rattle.pddl_models.specs.Saying.{is_saying, is_costing, is_calling, AreNoTotals}
 use Rattle.pddl_vocabulary.specs.Values.{actions_in, action_said, type_names, place_in, names_of, words_named, SaysWords}
 use Rattle.pddl_models.specs.Says.{atoms_in, own_words, param_names, schema_atom_said, term_said, increase_in, said_atoms, body_said}
@@ -34,7 +36,8 @@ use Rattle.pddl_models.proofs.AgreeLemmas.{type_place, Agrees, is_due, head_fits
 use Rattle.pddl_models.proofs.DomainLemmas.{domain_agrees, names_are}
 use Rattle.pddl_models.proofs.DueLemmas.{head_due, round_more, round_here}
 use Rattle.pddl_models.proofs.RepeatLemmas.{firsts_entries}
-use Rattle.pddl_models.proofs.SayingLemmas.{action_named, own_atoms_more, own_atoms_same, own_atoms_end, increase_end, increase_more, increase_numeral, increase_call, actions_more, actions_same}
+use Rattle.pddl_models.proofs.SayingLemmas.{own_atoms_more, own_atoms_same, own_atoms_end, increase_end, increase_more, increase_numeral, increase_call, actions_more, actions_same}
+use Rattle.pddl_vocabulary.proofs.EntryLemmas.{all_map}
 
 -- ---- heads by their roles
 
@@ -109,26 +112,18 @@ module _ (base : Declared) (said : List Word) (words : Vocabulary) (named : IsNa
   atoms_by due before w rest inside later true s act is = ap (list_all atom_of) (own_atoms_end due w rest act)
   atoms_by due before w rest inside later false true act is =
       ap (list_all atom_of) (own_atoms_more due w rest act is)
-      ∙ and_from (atom_of (w.text, terms_behind rest)) (list_all atom_of (atoms_in due (own_words rest))) (atom_fits due before w rest inside is) (later (action_named w ∙ act))
-  atoms_by due before w rest inside later false false act is = ap (list_all atom_of) (own_atoms_same due w rest act is) ∙ later (action_named w ∙ act)
+      ∙ and_from (atom_of (w.text, terms_behind rest)) (list_all atom_of (atoms_in due (own_words rest))) (atom_fits due before w rest inside is) (later (action_name w ∙ act))
+  atoms_by due before w rest inside later false false act is = ap (list_all atom_of) (own_atoms_same due w rest act is) ∙ later (action_name w ∙ act)
 
   atoms_fit : (due : Says) (rest before : List Word) → Inside before rest → list_all atom_of (atoms_in due (own_words rest)) ≡ true
   atoms_fit due [] before inside = refl
   atoms_fit due (w ∷ rest) before inside =
       atoms_by due before w rest inside (λ is. atoms_fit due rest (before ++ w ∷ []) (inside_more before w rest is inside)) (is_action_name w.role) (is_saying due w.role) refl refl
 
-  passes_map : {X Y : Type 0} (p : Y → Bool) (f : X → Y) (xs : List X) → list_all (λ x. p (f x)) xs ≡ true → list_all p (map f xs) ≡ true
-  passes_map p f [] all = refl
-  passes_map p f (x ∷ xs) all = split (p (f x)) (list_all (λ y. p (f y)) xs) (list_all p (map f xs)) (passes_map p f xs) all
-    where
-      split : (a b c : Bool) → (b ≡ true → c ≡ true) → (a && b) ≡ true → (a && c) ≡ true
-      split true b c more all = more all
-      split false b c more all = all
-
   said_fit : (due : Says) (before : List Word) → Inside before behind → are_schema_atoms words params (said_atoms due words behind) ≡ true
   said_fit due before inside =
       firsts_entries same_schema_atom (is_schema_atom words params) (map (schema_atom_said (words_named words.predicates) (names_of words.objects) (param_names behind)) (atoms_in due (own_words behind)))
-      (passes_map (is_schema_atom words params) (schema_atom_said (words_named words.predicates) (names_of words.objects) (param_names behind)) (atoms_in due (own_words behind)) (atoms_fit due behind before inside))
+      (all_map (is_schema_atom words params) (schema_atom_said (words_named words.predicates) (names_of words.objects) (param_names behind)) (atoms_in due (own_words behind)) (atoms_fit due behind before inside))
 
   -- ---- its increase
 
@@ -157,7 +152,7 @@ module _ (base : Declared) (said : List Word) (words : Vocabulary) (named : IsNa
       ap (is_increase words params) (increase_call (words_named words.functions) (names_of words.objects) (param_names behind) w rest is) ∙ call_fits before w rest inside is
   increase_by before w rest inside later _ is =
       ap (is_increase words params) (increase_more (words_named words.functions) (names_of words.objects) (param_names behind) w rest (ap is_action_name is) (ap is_costing is))
-      ∙ later (action_named w ∙ ap is_action_name is)
+      ∙ later (action_name w ∙ ap is_action_name is)
 
   increase_fits : (rest before : List Word) → Inside before rest → is_increase words params (increase rest) ≡ true
   increase_fits [] before inside = refl
@@ -167,11 +162,8 @@ module _ (base : Declared) (said : List Word) (words : Vocabulary) (named : IsNa
   body_fits : (name : Text) (action : Signature) → action.params ≡ params → (before : List Word) → Inside before behind → is_body words (body_said words (name, behind)) action ≡ true
   body_fits name action is before inside =
       ap (λ ps. are_schema_atoms words ps (said_atoms says.Needed words behind) && are_schema_atoms words ps (said_atoms says.Added words behind) && are_schema_atoms words ps (said_atoms says.Deleted words behind) && is_increase words ps (increase behind)) is
-      ∙ all4 (are_schema_atoms words params (said_atoms says.Needed words behind)) (are_schema_atoms words params (said_atoms says.Added words behind)) (are_schema_atoms words params (said_atoms says.Deleted words behind)) (is_increase words params (increase behind))
+      ∙ all_four (are_schema_atoms words params (said_atoms says.Needed words behind)) (are_schema_atoms words params (said_atoms says.Added words behind)) (are_schema_atoms words params (said_atoms says.Deleted words behind)) (is_increase words params (increase behind))
       (said_fit says.Needed before inside) (said_fit says.Added before inside) (said_fit says.Deleted before inside) (increase_fits behind before inside)
-    where
-      all4 : (a b c d : Bool) → a ≡ true → b ≡ true → c ≡ true → d ≡ true → (a && b && c && d) ≡ true
-      all4 a b c d p q r s = and_from (a && b && c) d (and_from (a && b) c (and_from a b p q) r) s
 
 -- ---- all actions
 
@@ -188,7 +180,7 @@ module _ (said : List Word) (words : Vocabulary) (says : SaysWords said words) (
       ∙ and_from (is_body words (body_said words (w.text, rest)) (action_said names (w.text, rest))) (pointwise (is_body words) (map (body_said words) (actions_in rest)) (map (action_said names) (actions_in rest)))
       (body_fits nothing said words named (domain_agrees said words says) calls rest w.text (action_said names (w.text, rest))
       (ap (λ ns. map (place_in ns) (types_of (action_params rest))) (sym (names_are said words says))) (before ++ w ∷ [])
-      (record { split = split ∙ sym (append_assoc before (w ∷ []) rest); round = ap (λ ws. ws ++ rest) (round_here before w (action_named w ∙ act)) })) later
+      (record { split = split ∙ sym (append_assoc before (w ∷ []) rest); round = ap (λ ws. ws ++ rest) (round_here before w (action_name w ∙ act)) })) later
   bodies_by before w rest split later false act =
       ap (λ acts. pointwise (is_body words) (map (body_said words) acts) (map (action_said names) acts)) (actions_same w rest act) ∙ later
 

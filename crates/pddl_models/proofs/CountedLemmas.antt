@@ -3,17 +3,15 @@ use Rattle.std.proofs.Common.{◌≡◌, ℕ, ◌≤◌, suc, List, [], ◌∷�
 use Rattle.std.specs.Prelude.{not, filter}
 use Rattle.std.proofs.lemmas.List.{length-map}
 use Rattle.mre_base.specs.declared.text.Text.{Text}
+use Rattle.mre_base.proofs.Listed.{filter_few}
 use Rattle.model_kit.specs.declared.vocabulary.Vocabulary.{Vocabulary}
 use Rattle.pddl_names.specs.declared.role.Role.{Role}
 use Rattle.pddl_names.specs.declared.role.Role.TheVariants as role
 use Rattle.pddl_names.specs.declared.role.Word.{Word}
 use Rattle.pddl_names.specs.Listings.{Typed, Signed, with_object, with_predicate, with_function, objects_listed, predicates_in, functions_in, types_of, own_params, type_behind}
 use Rattle.pddl_vocabulary.specs.Values.{firsts, place_in, same_entry, signature_said, is_total, type_names, objects_said, SaysWords}
-use Rattle.pddl_models.proofs.RepeatLemmas.{filter_length, firsts_length}
-
-object_count : (r : Role) (e : Typed) (more : List Typed) (n : ℕ) → length more ≤ n → length (with_object r e more) ≤ suc n
-object_count role.ListedObject e more n le = omega (arith, le)
-object_count _ e more n le = omega (arith, le)
+use Rattle.pddl_vocabulary.proofs.FewLemmas.{firsts_few}
+use Rattle.pddl_vocabulary.proofs.ObjectLemmas.{objects_listed_few}
 
 predicate_count : (r : Role) (e : Signed) (more : List Signed) (n : ℕ) → length more ≤ n → length (with_predicate r e more) ≤ suc n
 predicate_count role.Predicate e more n le = omega (arith, le)
@@ -22,10 +20,6 @@ predicate_count _ e more n le = omega (arith, le)
 function_count : (r : Role) (e : Signed) (more : List Signed) (n : ℕ) → length more ≤ n → length (with_function r e more) ≤ suc n
 function_count role.Function e more n le = omega (arith, le)
 function_count _ e more n le = omega (arith, le)
-
-objects_count : (words : List Word) → length (objects_listed words) ≤ length words
-objects_count [] = omega arith
-objects_count (w ∷ rest) = object_count w.role (w.text, type_behind rest) (objects_listed rest) (length rest) (objects_count rest)
 
 predicates_count : (words : List Word) → length (predicates_in words) ≤ length words
 predicates_count [] = omega arith
@@ -46,12 +40,12 @@ module _ (said : List Word) (words : Vocabulary) (says : SaysWords said words) w
       let kept : List Signed = filter (λ s. not (is_total s)) (functions_in said) in
       let count : length words.functions ≡ length kept = ap length says.functions ∙ length-map kept (signature_said (type_names said)) in
       let le = functions_count said in
-      let fewer = filter_length (λ s. not (is_total s)) (functions_in said) in omega (arith, count, le, fewer)
+      let fewer = filter_few (λ s. not (is_total s)) (functions_in said) in omega (arith, count, le, fewer)
 
   pub few_objects : length words.objects ≤ length said
   few_objects =
       let made : List (Text × ℕ) = objects_said (type_names said) said in
       let count : length words.objects ≡ length (firsts same_entry (objects_listed said)) =
       ap length says.objects ∙ length-map (firsts same_entry (objects_listed said)) (λ (e : Typed). let entry : Text × ℕ = (e.0, place_in (type_names said) e.1) in entry) in
-      let le = objects_count said in
-      let fewer = firsts_length same_entry (objects_listed said) in omega (arith, count, le, fewer)
+      let le = objects_listed_few said in
+      let fewer = firsts_few same_entry (objects_listed said) in omega (arith, count, le, fewer)

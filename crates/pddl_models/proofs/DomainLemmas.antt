@@ -3,9 +3,9 @@ use Rattle.std.proofs.Common.{◌≡◌, ℕ, ◌<◌, ◌||◌, Bool, true, fal
 use Rattle.std.specs.Prelude.{not, filter, slice_get, unwrap_or, codes}
 use Rattle.std.specs.Option.{option_map, option_map_or}
 use Rattle.std.specs.Str.{bytes_eq}
-use Rattle.std.proofs.lemmas.Bool.{true≢false}
+use Rattle.std.proofs.lemmas.Bool.{true≢false, or_right}
 use Rattle.std.proofs.lemmas.List.{length-map}
-use Rattle.std.proofs.lemmas.Option.{slice_get-map}
+use Rattle.std.proofs.lemmas.Option.{slice_get-map, slice_get_within}
 use Rattle.mre_base.specs.declared.text.Text.{Text}
 use Rattle.model_kit.specs.declared.vocabulary.Signature.{Signature}
 use Rattle.model_kit.specs.declared.vocabulary.Vocabulary.{Vocabulary}
@@ -18,17 +18,17 @@ use Rattle.pddl_names.specs.Listings.{Typed, Signed, nothing, declared, first_of
 use Rattle.pddl_names.specs.Numbers.{entry_name}
 use Rattle.pddl_vocabulary.specs.Values.{firsts, place_in, names_of, words_named, type_names, type_words, with_type_name, types_said, objects_said, same_entry, signature_said, is_total, SaysWords}
 use Rattle.pddl_models.proofs.AgreeLemmas.{type_place, IsSigned, Agrees}
-use Rattle.pddl_models.proofs.PlaceInLemmas.{is_among, name_self, name_same, at_place, place_here, place_none, within, name_at, first_at, first_none, first_kept, first_first}
+use Rattle.pddl_models.proofs.PlaceInLemmas.{is_among, name_self, name_same, at_place, place_here, place_none, name_at, first_at, first_none, first_kept, first_first}
 use Rattle.pddl_models.proofs.RepeatLemmas.{firsts_among}
 
 -- a place is below the number of names, where there is one
 place_by : (names : List Text) (t : Text) → 0 < length names → (b : Bool) → is_among names t ≡ b → place_in names t < length names
-place_by names t some true among = within names (place_in names t) t (at_place names t among)
+place_by names t some true among = slice_get_within names (place_in names t) t (at_place names t among)
 place_by names t some false none = let here = place_none names t none in omega (arith, here)
 
 pub type_below : (words : Vocabulary) (t : Text) → type_place words t < length words.types
 type_below words t =
-    let some : 0 < length words.types = within words.types 0 (codes "object", 0) (facts_of_words words).types_kept.first in
+    let some : 0 < length words.types = slice_get_within words.types 0 (codes "object", 0) (facts_of_words words).types_kept.first in
     let count : length (names_of words.types) ≡ length words.types = length-map words.types entry_name in
     let lt = place_by (names_of words.types) t (omega (arith, some, count)) (is_among (names_of words.types) t) refl in
     omega (arith, lt, count)
@@ -60,11 +60,7 @@ listed_by role.ListedType text type t listed names rest e = or_by (bytes_eq text
     or_by : (a b c : Bool) → (b ≡ true → c ≡ true) → (a || b) ≡ true → (a || c) ≡ true
     or_by true b c more e = refl
     or_by false b c more e = more e
-listed_by role.ParentType text type t listed names rest e = or_second (bytes_eq text t) (is_among names t) (rest e)
-  where
-    or_second : (a c : Bool) → c ≡ true → (a || c) ≡ true
-    or_second true c e = refl
-    or_second false c e = e
+listed_by role.ParentType text type t listed names rest e = or_right (bytes_eq text t) (is_among names t) (rest e)
 listed_by _ text type t listed names rest e = rest e
 
 listed_among : (words : List Word) (t : Text) → is_among (map name_at (types_listed words)) t ≡ true → is_among (type_words words) t ≡ true
@@ -76,11 +72,7 @@ module _ (said : List Word) where
   names = type_names said
 
   listed_named : (t : Text) → is_among (map name_at (types_listed said)) t ≡ true → is_among names t ≡ true
-  listed_named t e = firsts_among (codes "object" ∷ type_words said) t (or_by (bytes_eq (codes "object") t) (is_among (type_words said) t) (listed_among said t e))
-    where
-      or_by : (a c : Bool) → c ≡ true → (a || c) ≡ true
-      or_by true c e = refl
-      or_by false c e = e
+  listed_named t e = firsts_among (codes "object" ∷ type_words said) t (or_right (bytes_eq (codes "object") t) (is_among (type_words said) t) (listed_among said t e))
 
   unlisted_by : (t : Text) → is_among names t ≡ false → (b : Bool) → is_among (map name_at (types_listed said)) t ≡ b → parent_of (types_listed said) t ≡ codes "object"
   unlisted_by t none true among = absurd (true≢false (sym (listed_named t among) ∙ none))

@@ -10,6 +10,7 @@ use Rattle.std.proofs.lemmas.Bool.{true≢false, and_from}
 use Rattle.std.proofs.lemmas.Bool.Decides.{same_from_decides, Decides-like, Decides-eqb}
 use Rattle.std.proofs.lemmas.Option.{slice_get-map}
 use Rattle.mre_base.specs.declared.text.Text.{Text}
+use Rattle.mre_base.proofs.Options.{same_some}
 use Rattle.model_kit.specs.declared.atom.GroundAtom.{GroundAtom}
 use Rattle.model_kit.specs.declared.vocabulary.Vocabulary.{Vocabulary}
 use Rattle.model_kit.specs.Same.{same_atom, same_numbers}
@@ -29,15 +30,17 @@ use Rattle.pddl_names.specs.Params.{is_action_name}
 use Rattle.pddl_models.specs.Saying.{is_saying, is_calling, is_of_problem, AreNoTotals, AreOfProblem}
 use Rattle.pddl_models.specs.Saying as said_roles
 use Rattle.pddl_names.specs.Texts.{declared_by}
+use Rattle.pddl_names.proofs.ParamTypes.{action_name}
 use Rattle.pddl_vocabulary.specs.Values.{firsts, place_in, names_of, words_named, SaysMore}
 use Rattle.pddl_models.specs.Says.{atoms_in, ground_atom_said, facts_said, value_said, same_given}
 use Rattle.pddl_models.proofs.AgreeLemmas.{Agrees, is_due, ground_fits, due_by}
 use Rattle.pddl_models.proofs.BodyLemmas.{saying_head, atom_types, value_types, at_split}
 use Rattle.pddl_models.proofs.DueLemmas.{head_due, round_more}
-use Rattle.pddl_models.proofs.PlaceInLemmas.{some_inj, name_same, name_self}
+use Rattle.pddl_models.proofs.PlaceInLemmas.{name_same, name_self}
 use Rattle.pddl_models.proofs.ProblemLemmas.{problem_agrees, no_params}
 use Rattle.pddl_models.proofs.RepeatLemmas.{firsts_entries, map-firsts}
-use Rattle.pddl_models.proofs.SayingLemmas.{action_named, atoms_more, atoms_same, values_more, values_same}
+use Rattle.pddl_models.proofs.SayingLemmas.{atoms_more, atoms_same, values_more, values_same}
+use Rattle.pddl_vocabulary.proofs.EntryLemmas.{all_map}
 
 -- the name is at its place
 abbrev stands : List Text → Text → Bool
@@ -58,7 +61,7 @@ places_tell : (names : List Text) (a b : Text) → stands names a ≡ true → s
 places_tell names a b p q =
     same_from_decides (bytes_eq a b) (place_in names a == place_in names b) (same_numbers-decides a b)
     (Decides-like (place_in names a == place_in names b)
-    (λ same. some_inj a b (sym (stands_at names a p) ∙ ap (slice_get names) same ∙ stands_at names b q)) (ap (place_in names)) (Decides-eqb (place_in names a) (place_in names b)))
+    (λ same. same_some a b (sym (stands_at names a p) ∙ ap (slice_get names) same ∙ stands_at names b q)) (ap (place_in names)) (Decides-eqb (place_in names a) (place_in names b)))
 
 lists_tell : (names as' bs : List Text) → list_all (stands names) as' ≡ true → list_all (stands names) bs ≡ true → pointwise bytes_eq as' bs ≡ same_numbers (map (place_in names) as') (map (place_in names) bs)
 lists_tell names [] [] p q = refl
@@ -91,7 +94,7 @@ module _ (domain : Vocabulary) (said : List Word) (words : Vocabulary) (more : S
 
   no_action : (before : List Word) (w : Word) (rest : List Word) → Behind before (w ∷ rest) → is_action w ≡ false
   no_action before w rest behind =
-      action_named w ∙ problem_no_action w.role (at_split (λ (v : Word). IsTrue (is_of_problem v.role)) before w rest (subst (λ ws. AreOfProblem ws) behind.split problem))
+      action_name w ∙ problem_no_action w.role (at_split (λ (v : Word). IsTrue (is_of_problem v.role)) before w rest (subst (λ ws. AreOfProblem ws) behind.split problem))
 
   behind_more : (before : List Word) (w : Word) (rest : List Word) → Behind before (w ∷ rest) → Behind (before ++ w ∷ []) rest
   behind_more before w rest behind = record {
@@ -136,10 +139,6 @@ module _ (domain : Vocabulary) (said : List Word) (words : Vocabulary) (more : S
 
   start : Behind [] said
   start = record { split = refl; round = refl }
-
-  all_map : {X Y : Type 0} (p : Y → Bool) (f : X → Y) (xs : List X) → list_all (λ x. p (f x)) xs ≡ true → list_all p (map f xs) ≡ true
-  all_map p f [] all = refl
-  all_map p f (x ∷ xs) all = and_from (p (f x)) (list_all p (map f xs)) (first_so (p (f x)) (list_all (λ y. p (f y)) xs) all) (all_map p f xs (second_so (p (f x)) (list_all (λ y. p (f y)) xs) all))
 
   pub said_facts : (due : Says) (facts : List GroundAtom) → facts ≡ facts_said due words said → are_ground_atoms words facts ≡ true
   said_facts due facts is =

@@ -6,13 +6,11 @@ use Rattle.std.specs.Option.{option_map}
 use Rattle.std.specs.Str.{bytes_eq}
 use Rattle.std.proofs.lemmas.Bool.{true≢false}
 use Rattle.mre_base.specs.declared.text.Text.{Text}
+use Rattle.mre_base.proofs.Options.{same_some}
 use Rattle.model_kit.proofs.Alike.{same_numbers-decides}
 use Rattle.pddl_names.specs.Listings.{first_of}
 use Rattle.pddl_vocabulary.specs.Values.{firsts, place_in}
 use Rattle.pddl_names.proofs.PlaceLemmas.{position_shift}
-
-pub some_inj : {X : Type 0} (x y : X) → Some x ≡ Some y → x ≡ y
-some_inj x y e = cc
 
 pub name_self : (t : Text) → bytes_eq t t ≡ true
 name_self t = (same_numbers-decides t t).1 refl
@@ -73,15 +71,6 @@ pub at_place : (names : List Text) (name : Text) → is_among names name ≡ tru
 at_place [] name among = absurd (true≢false (sym among))
 at_place (m ∷ names) name among = at_by m names name (at_place names name) (bytes_eq m name) refl among
 
--- different names have different places
-pub one_place : (names : List Text) (a b : Text) → IsAt names a → IsAt names b → place_in names a ≡ place_in names b → a ≡ b
-one_place names a b first second same = some_inj a b (sym first ∙ ap (slice_get names) same ∙ second)
-
-pub within : {X : Type 0} (xs : List X) (n : ℕ) (x : X) → slice_get xs n ≡ Some x → n < length xs
-within [] n x at = absurd (cc)
-within (y ∷ xs) zero x at = omega arith
-within (y ∷ xs) (suc n) x at = let more = within xs n x at in omega (arith, more)
-
 -- ---- entries
 
 module _ {X : Type 0} where
@@ -111,7 +100,7 @@ module _ {X : Type 0} where
       → (b : Bool) → bytes_eq e.0 name ≡ b → cond b (Some e.1) (first_of entries name) ≡ Some x
       → slice_get (e ∷ entries) (place_in (e.0 ∷ map name_at entries) name) ≡ Some (name, x)
   first_at-by e entries name x rest true is at =
-      let value : e.1 ≡ x = some_inj e.1 x at in
+      let value : e.1 ≡ x = same_some e.1 x at in
       let key : e.0 ≡ name = name_same e.0 name is in
       ap (slice_get (e ∷ entries)) (place_here e.0 (map name_at entries) name is) ∙ (λ i. Some (key i, value i))
   first_at-by e entries name x rest false is at =

@@ -4,7 +4,7 @@ use Rattle.std.specs.Prelude.{not, filter, slice_get, unwrap_or, codes, All, IsT
 use Rattle.std.specs.List.{list_any}
 use Rattle.std.specs.Option.{option_map, option_map_or, option_or}
 use Rattle.std.specs.Str.{bytes_eq}
-use Rattle.std.proofs.lemmas.Bool.{true≢false}
+use Rattle.std.proofs.lemmas.Bool.{true≢false, or_right}
 use Rattle.std.proofs.lemmas.List.{append-nil}
 use Rattle.std.proofs.lemmas.List.Elements.{All-head, All-tail}
 use Rattle.std.proofs.lemmas.Option.{slice_get-map}
@@ -14,6 +14,8 @@ use Rattle.model_kit.specs.declared.vocabulary.Vocabulary.{Vocabulary}
 use Rattle.model_kit.specs.Types as numbered
 use Rattle.model_kit.specs.Words.{is_signature}
 use Rattle.mre_base.proofs.Loops.{All_item}
+use Rattle.mre_base.proofs.Options.{same_some}
+use Rattle.mre_base.proofs.Listed.{item_at}
 use Rattle.model_kit.proofs.StateLemmas.{list_any-map}
 use Rattle.model_kit.proofs.WordFacts.{facts_of_words, type_listed, signature_types, SignatureFacts}
 use Rattle.pddl_names.specs.declared.role.Role.{Role}
@@ -27,7 +29,7 @@ use Rattle.pddl_vocabulary.specs.Values.{firsts, place_in, names_of, words_named
 use Rattle.pddl_models.proofs.AgreeLemmas.{type_place, IsSigned, Agrees}
 use Rattle.pddl_models.proofs.DomainLemmas.{type_below, top_parent}
 use Rattle.pddl_names.proofs.NumberLemmas.{one_number}
-use Rattle.pddl_models.proofs.PlaceInLemmas.{some_inj, is_among, name_self, name_same, at_place, place_none, name_at, first_at, first_none, first_kept, first_first}
+use Rattle.pddl_models.proofs.PlaceInLemmas.{is_among, name_self, name_same, at_place, place_none, name_at, first_at, first_none, first_kept, first_first}
 
 -- ---- the words of a problem declare only objects
 
@@ -81,23 +83,14 @@ module _ (words : Vocabulary) where
   among_at : (entries : List (Text × ℕ)) (n : ℕ) (e : Text × ℕ) → slice_get entries n ≡ Some e → is_among (names_of entries) e.0 ≡ true
   among_at [] n e at = absurd (cc)
   among_at (f ∷ entries) zero e at =
-      ap (λ b. b || is_among (names_of entries) e.0) (ap (λ (t : Text). bytes_eq t e.0) (ap (λ (g : Text × ℕ). g.0) (some_inj f e at)) ∙ name_self e.0)
-  among_at (f ∷ entries) (suc n) e at = or_second (bytes_eq f.0 e.0) (is_among (names_of entries) e.0) (among_at entries n e at)
-    where
-      or_second : (a b : Bool) → b ≡ true → (a || b) ≡ true
-      or_second true b e = refl
-      or_second false b e = e
+      ap (λ b. b || is_among (names_of entries) e.0) (ap (λ (t : Text). bytes_eq t e.0) (ap (λ (g : Text × ℕ). g.0) (same_some f e at)) ∙ name_self e.0)
+  among_at (f ∷ entries) (suc n) e at = or_right (bytes_eq f.0 e.0) (is_among (names_of entries) e.0) (among_at entries n e at)
 
   pub place_of : (n : ℕ) (e : Text × ℕ) → slice_get types n ≡ Some e → place_in names e.0 ≡ n
   place_of n e at =
       one_number entry_name types e.0 (facts_of_words words).types_kept.kept.apart (place_in names e.0) n
       (sym (slice_get-map entry_name types (place_in names e.0)) ∙ at_place names e.0 (among_at types n e at))
       (ap (option_map entry_name) at)
-
-  item_at : {X : Type 0} (xs : List X) (n : ℕ) → n < length xs → (x : X) × (slice_get xs n ≡ Some x)
-  item_at [] n lt = absurd (omega (arith, lt))
-  item_at (x ∷ xs) zero lt = (x, refl)
-  item_at (x ∷ xs) (suc n) lt = item_at xs n (omega (arith, lt))
 
   -- a type is the place of its name
   pub name_place : (type : ℕ) → type < length types → place_in names (type_name types type) ≡ type
@@ -163,7 +156,7 @@ module _ (words : Vocabulary) where
       → (o : Option Signature) → slice_get signatures n ≡ o → option_map (signature_declared types) o ≡ Some (name, dues) → IsSigned words signatures name dues
   signed_from signatures facts name dues n is None at made = absurd (cc)
   signed_from signatures facts name dues n is (Some s) at made =
-      let same : signature_declared types s ≡ (name, dues) = some_inj (signature_declared types s) (name, dues) made in
+      let same : signature_declared types s ≡ (name, dues) = same_some (signature_declared types s) (name, dues) made in
       record {
         signature = s;
         at = ap (slice_get signatures) (sym is) ∙ at;

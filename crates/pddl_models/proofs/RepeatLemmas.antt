@@ -4,11 +4,13 @@ use Rattle.std.specs.Prelude.{not, filter}
 use Rattle.std.specs.List.{list_any, list_all}
 use Rattle.std.specs.Str.{bytes_eq}
 use Rattle.std.specs.Cmp.{first_so, second_so}
-use Rattle.std.proofs.lemmas.Bool.{true≢false, and_from}
+use Rattle.std.proofs.lemmas.Bool.{true≢false, and_from, not-true, not_from_false}
 use Rattle.mre_base.specs.declared.text.Text.{Text}
+use Rattle.mre_base.proofs.Tests.{or_not_second}
 use Rattle.model_kit.specs.Names.{are_distinct, are_entries}
 use Rattle.pddl_vocabulary.specs.Values.{firsts}
 use Rattle.pddl_models.proofs.PlaceInLemmas.{is_among, name_same}
+use Rattle.pddl_vocabulary.proofs.EntryLemmas.{distinct_firsts}
 
 -- ---- what a filter keeps
 
@@ -26,31 +28,19 @@ module _ {X : Type 0} (keep : X → Bool) where
   none_by p x ys none false r true is e = ap (λ b. b || list_any p ys) is ∙ none
   none_by p x ys none false r false is e = none
 
-  or_second : (a b : Bool) → (a || b) ≡ false → b ≡ false
-  or_second true b e = absurd (true≢false e)
-  or_second false b e = e
-
   filter_none : (p : X → Bool) (xs : List X) → list_any p xs ≡ false → list_any p (filter keep xs) ≡ false
   filter_none p [] none = refl
-  filter_none p (x ∷ xs) none = none_by p x (filter keep xs) (filter_none p xs (or_second (p x) (list_any p xs) none)) (p x) (list_any p xs) (keep x) refl none
-
-  not_from : (b : Bool) → b ≡ false → not b ≡ true
-  not_from true e = absurd (true≢false e)
-  not_from false e = refl
-
-  not_back : (b : Bool) → not b ≡ true → b ≡ false
-  not_back true e = sym e
-  not_back false e = refl
+  filter_none p (x ∷ xs) none = none_by p x (filter keep xs) (filter_none p xs (or_not_second (p x) (list_any p xs) none)) (p x) (list_any p xs) (keep x) refl none
 
   distinct_by : (same : X → X → Bool) (x : X) (ys : List X) → list_any (same x) ys ≡ false → are_distinct same ys ≡ true → (k : Bool) → are_distinct same (cond k (x ∷ ys) ys) ≡ true
-  distinct_by same x ys none apart true = and_from (not (list_any (same x) ys)) (are_distinct same ys) (not_from (list_any (same x) ys) none) apart
+  distinct_by same x ys none apart true = and_from (not (list_any (same x) ys)) (are_distinct same ys) (not_from_false (list_any (same x) ys) none) apart
   distinct_by same x ys none apart false = apart
 
   pub filter_distinct : (same : X → X → Bool) (xs : List X) → are_distinct same xs ≡ true → are_distinct same (filter keep xs) ≡ true
   filter_distinct same [] apart = refl
   filter_distinct same (x ∷ xs) apart =
       distinct_by same x (filter keep xs)
-      (filter_none (same x) xs (not_back (list_any (same x) xs) (first_so (not (list_any (same x) xs)) (are_distinct same xs) apart)))
+      (filter_none (same x) xs (not-true (list_any (same x) xs) (first_so (not (list_any (same x) xs)) (are_distinct same xs) apart)))
       (filter_distinct same xs (second_so (not (list_any (same x) xs)) (are_distinct same xs) apart)) (keep x)
 
   any_by : (p : X → Bool) (x : X) (ys : List X) → (p x ≡ true → keep x ≡ true) → (a r : Bool) → p x ≡ a → (r ≡ true → list_any p ys ≡ true) → (a || r) ≡ true → (k : Bool) → keep x ≡ k
@@ -64,23 +54,6 @@ module _ {X : Type 0} (keep : X → Bool) where
   filter_any p kept [] e = e
   filter_any p kept (x ∷ xs) e = any_by p x (filter keep xs) (kept x) (p x) (list_any p xs) refl (filter_any p kept xs) e (keep x) refl
 
-  length_by : (x : X) (ys : List X) (n : ℕ) → length ys ≤ n → (k : Bool) → length (cond k (x ∷ ys) ys) ≤ n + 1
-  length_by x ys n le true = omega (arith, le)
-  length_by x ys n le false = omega (arith, le)
-
-  pub filter_length : (xs : List X) → length (filter keep xs) ≤ length xs
-  filter_length [] = omega arith
-  filter_length (x ∷ xs) = let more = length_by x (filter keep xs) (length xs) (filter_length xs) (keep x) in omega (arith, more)
-
--- no entry that is kept passes where what passes is thrown out
-none_kept : {X : Type 0} (p : X → Bool) (xs : List X) → list_any p (filter (λ y. not (p y)) xs) ≡ false
-none_kept p [] = refl
-none_kept p (x ∷ xs) = out p x (filter (λ y. not (p y)) xs) (none_kept p xs) (p x) refl
-  where
-    out : {X : Type 0} (p : X → Bool) (x : X) (ys : List X) → list_any p ys ≡ false → (b : Bool) → p x ≡ b → list_any p (cond (not b) (x ∷ ys) ys) ≡ false
-    out p x ys none true is = none
-    out p x ys none false is = ap (λ b. b || list_any p ys) is ∙ none
-
 -- ---- the first of each
 
 module _ {X : Type 0} (same : X → X → Bool) where
@@ -90,25 +63,9 @@ module _ {X : Type 0} (same : X → X → Bool) where
       and_from (p x) (list_all p (filter (λ y. not (same x y)) (firsts same xs))) (first_so (p x) (list_all p xs) all)
       (filter_passes (λ y. not (same x y)) p (firsts same xs) (firsts_pass p xs (second_so (p x) (list_all p xs) all)))
 
-  not_so : (b : Bool) → b ≡ false → not b ≡ true
-  not_so true e = absurd (true≢false e)
-  not_so false e = refl
-
-  pub firsts_distinct : (xs : List X) → are_distinct same (firsts same xs) ≡ true
-  firsts_distinct [] = refl
-  firsts_distinct (x ∷ xs) =
-      and_from (not (list_any (same x) (filter (λ y. not (same x y)) (firsts same xs)))) (are_distinct same (filter (λ y. not (same x y)) (firsts same xs)))
-      (not_so (list_any (same x) (filter (λ y. not (same x y)) (firsts same xs))) (none_kept (same x) (firsts same xs)))
-      (filter_distinct (λ y. not (same x y)) same (firsts same xs) (firsts_distinct xs))
-
   -- entries that pass are entries of a list without repeats
   pub firsts_entries : (p : X → Bool) (xs : List X) → list_all p xs ≡ true → are_entries p same (firsts same xs) ≡ true
-  firsts_entries p xs all = and_from (list_all p (firsts same xs)) (are_distinct same (firsts same xs)) (firsts_pass p xs all) (firsts_distinct xs)
-
-  pub firsts_length : (xs : List X) → length (firsts same xs) ≤ length xs
-  firsts_length [] = omega arith
-  firsts_length (x ∷ xs) =
-      let kept = filter_length (λ y. not (same x y)) (firsts same xs) in let rest = firsts_length xs in omega (arith, kept, rest)
+  firsts_entries p xs all = and_from (list_all p (firsts same xs)) (are_distinct same (firsts same xs)) (firsts_pass p xs all) (distinct_firsts same xs)
 
 -- a name among the names is among the first of each
 among_by : (x t : Text) (zs : List Text) → (b r : Bool) → bytes_eq x t ≡ b → (r ≡ true → is_among zs t ≡ true) → (b || r) ≡ true → (b || is_among (filter (λ y. not (bytes_eq x y)) zs) t) ≡ true

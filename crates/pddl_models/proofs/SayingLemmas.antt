@@ -24,6 +24,7 @@ use Rattle.pddl_names.specs.Listings.{Typed, Signed, is_term, past_terms, number
 use Rattle.pddl_names.specs.Naming.{is_action}
 use Rattle.pddl_names.specs.Numbers.{IsTableOf, entry_name}
 use Rattle.pddl_names.specs.Params.{is_action_name, is_param}
+use Rattle.pddl_names.proofs.ParamTypes.{action_name}
 use Rattle.pddl_models.specs.Saying.{is_saying, is_value, is_costing}
 use Rattle.pddl_models.specs.WordTables.{ArePlacesOf}
 use Rattle.pddl_vocabulary.specs.Values.{ActionWords, with_action, actions_in, place_in}
@@ -60,14 +61,6 @@ own_more w rest is = while_true (λ v. not (is_action v)) w rest (ap not is)
 
 pub own_end : (w : Word) (rest : List Word) → is_action w ≡ true → own_words (w ∷ rest) ≡ []
 own_end w rest is = while_false (λ v. not (is_action v)) w rest (ap not is)
-
--- a word is the name of an action by its role
-name_by : (text : Text) (at : Place) (r : Role) → is_action (record { role = r; text = text; at = at }) ≡ is_action_name r
-name_by text at role.Action = refl
-name_by text at _ = refl
-
-pub action_named : (w : Word) → is_action w ≡ is_action_name w.role
-action_named w = name_by w.text w.at w.role
 
 -- no term is the name of an action
 own_role : (text : Text) (at : Place) (r : Role) → is_term (record { role = r; text = text; at = at }) ≡ true → is_action (record { role = r; text = text; at = at }) ≡ false
@@ -109,15 +102,15 @@ atoms_same due w rest is = silent_step due w.role (w.text, terms_behind rest) (a
 pub own_atoms_more : (due : Says) (w : Word) (rest : List Word) → is_action_name w.role ≡ false → is_saying due w.role ≡ true
     → atoms_in due (own_words (w ∷ rest)) ≡ (w.text, terms_behind rest) ∷ atoms_in due (own_words rest)
 own_atoms_more due w rest own is =
-    ap (atoms_in due) (own_more w rest (action_named w ∙ own)) ∙ atoms_more due w (own_words rest) is
+    ap (atoms_in due) (own_more w rest (action_name w ∙ own)) ∙ atoms_more due w (own_words rest) is
     ∙ ap (λ (ts : List Text). let atom : Signed = (w.text, ts) in atom ∷ atoms_in due (own_words rest)) (own_terms rest)
 
 pub own_atoms_same : (due : Says) (w : Word) (rest : List Word) → is_action_name w.role ≡ false → is_saying due w.role ≡ false
     → atoms_in due (own_words (w ∷ rest)) ≡ atoms_in due (own_words rest)
-own_atoms_same due w rest own is = ap (atoms_in due) (own_more w rest (action_named w ∙ own)) ∙ atoms_same due w (own_words rest) is
+own_atoms_same due w rest own is = ap (atoms_in due) (own_more w rest (action_name w ∙ own)) ∙ atoms_same due w (own_words rest) is
 
 pub own_atoms_end : (due : Says) (w : Word) (rest : List Word) → is_action_name w.role ≡ true → atoms_in due (own_words (w ∷ rest)) ≡ []
-own_atoms_end due w rest is = ap (atoms_in due) (own_end w rest (action_named w ∙ is))
+own_atoms_end due w rest is = ap (atoms_in due) (own_end w rest (action_name w ∙ is))
 
 -- ---- one more entry, unless it was there before
 
@@ -184,11 +177,11 @@ module _ (functions objects params : List Text) where
   at_role text at _ rest more is = refl
 
   pub increase_end : (w : Word) (rest : List Word) → is_action_name w.role ≡ true → increase (w ∷ rest) ≡ None
-  increase_end w rest is = ap (increase_in functions objects params) (own_end w rest (action_named w ∙ is))
+  increase_end w rest is = ap (increase_in functions objects params) (own_end w rest (action_name w ∙ is))
 
   pub increase_more : (w : Word) (rest : List Word) → is_action_name w.role ≡ false → is_costing w.role ≡ false → increase (w ∷ rest) ≡ increase rest
   increase_more w rest own is =
-      ap (increase_in functions objects params) (own_more w rest (action_named w ∙ own)) ∙ at_role w.text w.at w.role (own_words rest) (increase rest) is
+      ap (increase_in functions objects params) (own_more w rest (action_name w ∙ own)) ∙ at_role w.text w.at w.role (own_words rest) (increase rest) is
 
   numeral_at : (text : Text) (at : Place) (r : Role) (rest : List Word) (more : Option CostExpr) → r ≡ role.Numeral
       → cost_at functions objects params (record { role = r; text = text; at = at }) rest more ≡ option_map Number (number text)
@@ -202,12 +195,12 @@ module _ (functions objects params : List Text) where
 
   pub increase_numeral : (w : Word) (rest : List Word) → w.role ≡ role.Numeral → increase (w ∷ rest) ≡ option_map Number (number w.text)
   increase_numeral w rest is =
-      ap (increase_in functions objects params) (own_more w rest (action_named w ∙ ap is_action_name is)) ∙ numeral_at w.text w.at w.role (own_words rest) (increase rest) is
+      ap (increase_in functions objects params) (own_more w rest (action_name w ∙ ap is_action_name is)) ∙ numeral_at w.text w.at w.role (own_words rest) (increase rest) is
 
   pub increase_call : (w : Word) (rest : List Word) → w.role ≡ role.Cost
       → increase (w ∷ rest) ≡ Some (Call (place_in functions w.text) (map (term_said objects params) (terms_behind rest)))
   increase_call w rest is =
-      ap (increase_in functions objects params) (own_more w rest (action_named w ∙ ap is_action_name is)) ∙ call_at w.text w.at w.role (own_words rest) (increase rest) is
+      ap (increase_in functions objects params) (own_more w rest (action_name w ∙ ap is_action_name is)) ∙ call_at w.text w.at w.role (own_words rest) (increase rest) is
       ∙ ap (λ ts. Some (Call (place_in functions w.text) (map (term_said objects params) ts))) (own_terms rest)
 
 -- ---- the metric
@@ -281,9 +274,6 @@ module _ (said : List Word) (place : ℕ) (w : Word) (at : slice_get said place 
       ∙ ap (λ n. map entry_name old ++ n ∷ param_names (drop (place + 1) said)) is
       ∙ sym (ap (λ ns. map entry_name old ++ ns) (params_more w (drop (place + 1) said) p))
       ∙ step before
-
-pub at_item : {X : Type 0} (o : Option X) (x : X) (P : X → Type 0) → o ≡ Some x → IfSome o P → P x
-at_item o x P is holds = subst (λ p. IfSome p P) is holds
 
 -- ---- roles that a match leaves
 

@@ -6,6 +6,7 @@ use Rattle.std.specs.Str.{bytes_eq}
 use Rattle.std.specs.Cmp.{first_so, second_so}
 use Rattle.std.specs.Cmp.Lexicographic.{pointwise}
 use Rattle.std.proofs.lemmas.Bool.{true≢false, and_from}
+use Rattle.mre_base.proofs.Listed.{slice_get-append}
 use Rattle.model_kit.specs.declared.atom.SchemaAtom.{SchemaAtom}
 use Rattle.model_kit.specs.declared.atom.Term.{Term}
 use Rattle.model_kit.specs.declared.atom.Term.TheVariants.{Param, Object}
@@ -27,11 +28,6 @@ use Rattle.pddl_names.specs.Numbers.{entry_name}
 use Rattle.pddl_vocabulary.specs.Values.{names_of, objects_said, SaysMore}
 use Rattle.pddl_models.specs.Says.{cost_said, schema_said}
 
-slice_append : {X : Type 0} (xs ys : List X) (n : ℕ) (x : X) → slice_get xs n ≡ Some x → slice_get (xs ++ ys) n ≡ Some x
-slice_append [] ys n x at = absurd (cc)
-slice_append (y ∷ xs) ys zero x at = at
-slice_append (y ∷ xs) ys (suc n) x at = slice_append xs ys n x at
-
 module _ {X : Type 0} (p q : X → Bool) (weaker : (x : X) → p x ≡ true → q x ≡ true) where
   all_weaker : (xs : List X) → list_all p xs ≡ true → list_all q xs ≡ true
   all_weaker [] all = refl
@@ -52,7 +48,7 @@ module _ (domain : Vocabulary) (said : List Word) (words : Vocabulary) (more : S
   object_more object type is =
       let entry = entry_passes (λ e. is_of_type domain.types e.1 type) domain.objects object is in
       entry_from (λ e. is_of_type words.types e.1 type) words.objects object entry.0
-      (ap (λ es. slice_get es object) more.objects ∙ slice_append domain.objects further object entry.0 entry.1)
+      (ap (λ es. slice_get es object) more.objects ∙ slice_get-append domain.objects further object entry.0 entry.1)
       (ap (λ types. is_of_type types entry.0.1 type) more.types ∙ entry.2)
 
   module _ (params : List ℕ) where

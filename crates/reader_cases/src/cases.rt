@@ -1,3 +1,4 @@
+//! The kinds of cases, and what a line of the input does.
 use crate::forms::{domain_form, problem_form};
 use crate::reading::{domain_lines, domain_read, model_lines, plan_read, problem_read};
 use mre_base::NoMemory;
@@ -14,13 +15,12 @@ enum Kind {
     /// The words of a domain or a problem, each with what it does.
     DomainForms,
     ProblemForms,
-    /// All that a domain holds, or a problem of the given domain.
+    /// The lines of a domain, or of the model of a problem of the given domain.
     DomainLines,
     ModelLines,
 }
 
-/// What the lines up to now have said: how texts are read, and the domain and the problem that are
-/// given.
+/// The state after the lines so far: how texts are read, and the domain and the problem for them.
 #[derive(Drop)]
 pub struct Cases {
     kind: Kind,
@@ -59,7 +59,7 @@ impl Cases {
         }
     }
 
-    /// Takes one line, and gives what is to be printed.
+    /// Takes one line, and gives what is printed for it.
     pub fn take(&mut self, alloc: Global, line: &str) -> Result<String, NoMemory> {
         if let Some(name) = line.strip_prefix("= ") {
             self.kind = kind_of(name);

@@ -1,6 +1,7 @@
+//! Cases of forms: the words of a text, each with what it does.
 use mre_base::{List, NoMemory};
 use pddl_form::{Listing, Met, Owner, Part, read_domain_form, read_problem_form};
-use pddl_text::{ReadStop, TextRule, read_forest};
+use pddl_text::{ReadStop, read_forest};
 use std::alloc::Global;
 
 /// The bytes that a text may have here.
@@ -53,7 +54,7 @@ fn role(part: Part) -> &'static str {
     }
 }
 
-// The same of a word of a condition, an effect, a cost or a problem's item.
+// The same for a word of a condition, an effect, a cost or a problem's item.
 fn role_inside(part: Part) -> &'static str {
     match part {
         Part::ConditionHead => "=needs ",
@@ -72,22 +73,11 @@ fn role_inside(part: Part) -> &'static str {
     }
 }
 
-// What a rule is called where it is printed.
-fn rule_name(rule: TextRule) -> &'static str {
-    match rule {
-        TextRule::Form => "form",
-        TextRule::Unsupported => "unsupported",
-        TextRule::NotWhole => "not-whole",
-        TextRule::Reserved => "reserved",
-        _ => "another rule",
-    }
-}
-
-// The rule, the place and the word of a fault.
+// The rule, the place and the word of a fault, as `RULE@LINE:COLUMN WORD`.
 fn stop_shown(alloc: Global, stop: &ReadStop) -> Result<String, NoMemory> {
     match stop {
         ReadStop::Fault(fault) => {
-            let rule = rule_name(fault.rule);
+            let rule = fault.rule.name();
             let line = fault.at.line;
             let column = fault.at.column;
             let word = fault.word.as_str();
@@ -108,7 +98,7 @@ fn words_shown(alloc: Global, words: &List<Met>) -> Result<String, NoMemory> {
     Ok(shown)
 }
 
-/// What a domain's text is read as: its words, or its fault.
+/// The words of a domain's text, each with what it does, or the first fault.
 pub fn domain_form(alloc: Global, text: &str) -> Result<String, NoMemory> {
     if text.len() > TEXT_LIMIT {
         return Err(NoMemory);
@@ -122,7 +112,7 @@ pub fn domain_form(alloc: Global, text: &str) -> Result<String, NoMemory> {
     }
 }
 
-/// The same of a problem's text.
+/// The same for a problem's text.
 pub fn problem_form(alloc: Global, text: &str) -> Result<String, NoMemory> {
     if text.len() > TEXT_LIMIT {
         return Err(NoMemory);

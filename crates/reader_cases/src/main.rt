@@ -1,8 +1,8 @@
-//! Reads the texts of standard input, and prints behind each what is read of it.
+//! Reads the texts of standard input, and prints after each what it is read as.
 //!
-//! A line is a text, in which a `|` stands for the end of a line. Before the texts a line `= KIND`
-//! says how they are read, and where that
-//! needs a domain or a problem, lines `domain TEXT` and `problem TEXT` give it.
+//! A line is a text, with `|` for the end of a line. A line `= KIND` says how the texts after it
+//! are read, and lines `domain TEXT` and `problem TEXT` give the domain and the problem that this
+//! needs.
 #![tactic(auto)]
 
 mod cases;
@@ -18,7 +18,7 @@ fn main(rt: HostRuntime) -> io::Result<()> {
     let mut cases = Cases::new(rt.alloc());
     for line in rt.lines(rt.alloc()) {
         match cases.take(rt.alloc(), line?.as_str()) {
-            Ok(told) => print!(rt; "{told}")?,
+            Ok(printed) => print!(rt; "{printed}")?,
             Err(NoMemory) => return Err(ErrorKind::OutOfMemory.into()),
         }
     }

@@ -1,8 +1,9 @@
+//! Cases of readings: the lines of a domain, a model or a plan, or a text's first fault.
 ghost use Rattle.std.specs.Prelude.{◌<◌, ◌^◌, length, IfOk};
 ghost use Rattle.pddl_read.specs.Texts.{AreFew};
 
 use model_kit::Model;
-use model_lines::{domain_text, fault_text, model_text, plan_text};
+use model_lines::{domain_text, model_text, plan_text};
 use mre_base::NoMemory;
 use pddl_read::{Domain, read_domain, read_plan, read_problem};
 use pddl_text::ReadStop;
@@ -40,11 +41,11 @@ fn model_in(alloc: Global, domain: &str, problem: &str) -> Result<Model, ReadSto
     model_of(alloc, &domain, problem)
 }
 
-// What is told of a text: what it holds, or where it first goes wrong.
-fn told(alloc: Global, read: Result<String, ReadStop>) -> Result<String, NoMemory> {
+// The lines of a text, or its first fault.
+fn lines_or_fault(alloc: Global, read: Result<String, ReadStop>) -> Result<String, NoMemory> {
     match read {
         Ok(text) => Ok(text),
-        Err(ReadStop::Fault(fault)) => fault_text(alloc, &fault),
+        Err(ReadStop::Fault(fault)) => fault.printed(alloc),
         Err(ReadStop::NoMemory) => Err(NoMemory),
     }
 }
@@ -61,22 +62,22 @@ fn in_row(alloc: Global, text: &str) -> Result<String, NoMemory> {
     Ok(row)
 }
 
-// Whether the value of a text is there.
+// `read` for a text that has a value, else its first fault.
 fn is_read<T>(alloc: Global, read: &Result<T, ReadStop>) -> Result<String, NoMemory> {
     match read {
         Ok(_) => Ok(String::from_str(alloc, "read")?),
-        Err(ReadStop::Fault(fault)) => fault_text(alloc, fault),
+        Err(ReadStop::Fault(fault)) => fault.printed(alloc),
         Err(ReadStop::NoMemory) => Err(NoMemory),
     }
 }
 
-/// Whether a domain with these sections is read.
+/// `read` for a domain with these sections, or its first fault.
 pub fn domain_read(alloc: Global, sections: &str) -> Result<String, NoMemory> {
     let text = format!(in alloc; "(define (domain d)\n{sections})")?;
     is_read(alloc, &domain_of(alloc, text.as_str()))
 }
 
-/// Whether a problem of the domain with these sections is read.
+/// `read` for a problem of the domain with these sections, or its first fault.
 pub fn problem_read(alloc: Global, domain: &str, sections: &str) -> Result<String, NoMemory> {
     let text = format!(in alloc; "(define (problem x) (:domain d)\n{sections})")?;
     is_read(alloc, &model_in(alloc, domain, text.as_str()))
@@ -113,25 +114,25 @@ fn lines_of_plan(
     steps_of(alloc, &model, text)
 }
 
-/// All that a domain holds.
+/// The lines of a domain, in one row.
 pub fn domain_lines(alloc: Global, text: &str) -> Result<String, NoMemory> {
-    let lines = told(alloc, lines_of_domain(alloc, text))?;
+    let lines = lines_or_fault(alloc, lines_of_domain(alloc, text))?;
     in_row(alloc, lines.as_str())
 }
 
-/// All that a problem of the domain holds.
+/// The lines of the model of a problem of the domain, in one row.
 pub fn model_lines(alloc: Global, domain: &str, text: &str) -> Result<String, NoMemory> {
-    let lines = told(alloc, lines_of_model(alloc, domain, text))?;
+    let lines = lines_or_fault(alloc, lines_of_model(alloc, domain, text))?;
     in_row(alloc, lines.as_str())
 }
 
-/// The steps of a plan for the domain and the problem.
+/// The steps of a plan for the domain and the problem, in one row.
 pub fn plan_read(
     alloc: Global,
     domain: &str,
     problem: &str,
     text: &str,
 ) -> Result<String, NoMemory> {
-    let lines = told(alloc, lines_of_plan(alloc, domain, problem, text))?;
+    let lines = lines_or_fault(alloc, lines_of_plan(alloc, domain, problem, text))?;
     in_row(alloc, lines.as_str())
 }

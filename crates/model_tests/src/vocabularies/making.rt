@@ -63,7 +63,7 @@ fn signatures(alloc: Global, types: &str, rows: &str) -> Result<List<Signature>,
     Ok(made)
 }
 
-// The vocabulary of the rows, where they are one's.
+// The vocabulary of the rows, if they make one.
 fn words_of(alloc: Global, rows: &Rows) -> Result<Option<Vocabulary>, NoMemory> {
     Ok(Vocabulary::checked(
         typed(alloc, rows.types, rows.types)?,
@@ -190,7 +190,7 @@ fn unknown(alloc: Global, rows: &Rows) -> Result<List<u32>, NoMemory> {
     Ok(made)
 }
 
-// The model of the rows, where they are one's.
+// The model of the rows, if they make one.
 fn model_of(alloc: Global, rows: &Rows) -> Result<Option<Model>, Fail> {
     let Some(words) = words_of(alloc, rows)? else {
         return Ok(None);

@@ -2,12 +2,13 @@ use Rattle.std.proofs.Common.{sym, ap, ◌∙◌, drop, ◌+◌}
 use Rattle.std.specs.Prelude.{slice_get}
 use Rattle.model_kit.specs.Same.{same_schema_atom}
 use Rattle.mre_base.proofs.Loops.{drop_item}
+use Rattle.mre_base.proofs.Options.{of_some}
 use Rattle.pddl_models.specs.Unrepeated.{schema_atom_key}
 use Rattle.pddl_names.specs.Listings.{terms_behind}
 use Rattle.pddl_vocabulary.specs.Values.{words_named, names_of}
 use Rattle.pddl_models.specs.Says.{schema_atom_said, atoms_in, own_words}
 use Rattle.pddl_models.proofs.KeptLemmas.{seen_none, fold_start, same_schema-trans, with_same}
-use Rattle.pddl_models.proofs.SayingLemmas.{first_more, first_same, first_end, own_atoms_more, own_atoms_same, own_atoms_end, at_item}
+use Rattle.pddl_models.proofs.SayingLemmas.{first_more, first_same, first_end, own_atoms_more, own_atoms_same, own_atoms_end}
 use Rattle.pddl_models.proofs.atoms_said.atoms_said.Goals as goal
 
 pub loop-place-init : goal.loop-place-init
@@ -42,7 +43,7 @@ loop-place-preserved c = record {
       first_more same_schema_atom (schema_atom_said (words_named words.predicates) (names_of words.objects) own) _ c.loop-place.made c.push_first.new.made c.in_ok-atom.atom
       (c.item.result.now.text, terms_behind (drop (c.loop-place.place + 1) c.args.said.now)) _ _
       (c.in_ok-push_first.ensures.made ∙ with_same c.loop-place.made c.in_ok-atom.atom)
-      (at_item (slice_get c.args.said.now c.loop-place.place) c.item.result.now _ c.item.ensures (c.in_ok-atom.ensures.ok words own tables params))
+      (of_some (slice_get c.args.said.now c.loop-place.place) c.item.result.now _ c.item.ensures (c.in_ok-atom.ensures.ok words own tables params))
       (ap (λ ws. atoms_in c.args.due (own_words ws)) (drop_item c.args.said.now c.loop-place.place c.item.result.now c.item.ensures)
       ∙ own_atoms_more c.args.due c.item.result.now (drop (c.loop-place.place + 1) c.args.said.now) (sym c.is_action.ensures ∙ c.if-is_action.false) (sym c.is_saying.ensures ∙ c.if-not-is_saying.false))
       (c.loop-place.invariant.rest words own tables params);

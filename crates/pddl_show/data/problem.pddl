@@ -1,5 +1,0 @@
-(define (problem short) (:domain roads)
-  (:objects mill - place t1 - truck)
-  (:init (at t1 depot) (road depot mill) (= (length depot mill) 3) (= (total-cost) 0))
-  (:goal (and (at t1 mill)))
-  (:metric minimize (total-cost)))
