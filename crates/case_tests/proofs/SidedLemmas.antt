@@ -1,4 +1,4 @@
--- Tables whose differences are each on one side have the facts of a case table.
+-- A table in which each difference is on one side has the facts of a case table.
 use Rattle.std.proofs.Common.{◌≡◌, ℕ, ◌+◌, ◌≤◌, ◌<◌, true, ◌&&◌, nat_le, nat_lt, List, length, get_or, All, refl, subst, arith, inl, inr}
 use Rattle.std.proofs.lemmas.Bool.Decides.{nat_tests}
 use Rattle.std.proofs.lemmas.List.Elements.{All-contains}

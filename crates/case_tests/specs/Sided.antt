@@ -1,5 +1,5 @@
--- Cases for tests: the differences up to a number are of what the planner's model alone has, and
--- the others of what the user's model alone has.
+-- Cases for tests: the differences up to a number are of what only the planner's model has, and the
+-- others of what only the user's model has.
 use Rattle.std.specs.Prelude.{ℕ, ◌+◌, ◌≡◌, ◌<◌, Bool, true, ◌&&◌, nat_le, nat_lt, All}
 use Rattle.case_kit.specs.declared.cases.When.{When}
 use Rattle.case_kit.specs.declared.cases.When.TheVariants.{Always, IfTold, IfLeft}
@@ -7,7 +7,7 @@ use Rattle.case_kit.specs.declared.cases.Case.{Case}
 use Rattle.case_kit.specs.declared.action.CaseAction.{CaseAction}
 use Rattle.case_kit.specs.Sound.{is_cost_listed, is_apart, is_beside}
 
--- the condition is on a difference of its side
+-- the condition depends on a difference of its side
 abbrev pub is_sided : ℕ → ℕ → When → Bool
 is_sided split d Always = true
 is_sided split d (IfTold place) = nat_le 1 place && nat_le place split

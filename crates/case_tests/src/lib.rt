@@ -1,4 +1,4 @@
-//! What is said of case tables, on tables of rows.
+//! Tests of case tables.
 #![tactic(auto)]
 
 #[cfg(test)]

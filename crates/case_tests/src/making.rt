@@ -1,4 +1,4 @@
-//! Small case tables for tests, from rows.
+//! Small case tables for tests, made of given actions.
 ghost use Rattle.std.specs.Prelude.{◌≡◌, ◌+◌, ◌≤◌, All, length, IfOk, IfSome};
 ghost use Rattle.case_kit.specs.Parts.{stands_in_value, stands_in_cost};
 ghost use Rattle.case_kit.specs.Sound.{is_value_listed, is_cost_listed, is_apart, is_beside};
@@ -8,9 +8,9 @@ use case_kit::{Case, CaseAction, CaseCost, CaseTable, CaseValue, When};
 use mre_base::{List, NoMemory};
 use std::alloc::Global;
 
-/// The cases of an action, its cost, and when a model knows it.
+/// An action as given: its cases, its cost, and the condition under which a model knows it.
 #[derive(Clone, Copy)]
-pub struct Row<'a> {
+pub struct GivenAction<'a> {
     pub pre: &'a [Case],
     pub add: &'a [Case],
     pub del: &'a [Case],
@@ -18,8 +18,8 @@ pub struct Row<'a> {
     pub known: When,
 }
 
-/// How many differences there are, up to which of them the planner's model alone has what differs,
-/// and how many atoms there are.
+/// The number of differences, the greatest number of a difference that only the planner's model
+/// has, and the number of atoms.
 #[derive(Clone, Copy)]
 pub struct Size {
     pub d: u32,
@@ -98,7 +98,7 @@ fn is_beside(cost: CaseCost, when: When) -> bool
     }
 }
 
-// The given cases that have an atom below the bound and a difference of their side.
+// The given cases whose atoms are below the bound and whose differences are of their side.
 fn cases_of(alloc: Global, size: Size, bound: u32, cases: &[Case]) -> Result<List<Case>, NoMemory>
     ensures { IfOk result (All (IsSided size.split size.d bound)) }
 {
@@ -111,52 +111,60 @@ fn cases_of(alloc: Global, size: Size, bound: u32, cases: &[Case]) -> Result<Lis
     Ok(list)
 }
 
-// The row's action, if its cost and its knowledge are on differences as a table has them.
-fn action_of(alloc: Global, size: Size, row: &Row<'_>) -> Result<Option<CaseAction>, NoMemory>
+// The given action, if its cost and its condition depend on differences as in a table.
+fn action_of(
+    alloc: Global,
+    size: Size,
+    given: &GivenAction<'_>,
+) -> Result<Option<CaseAction>, NoMemory>
     requires { size.atoms ≤ 4096 }
     ensures { IfOk result (λ action. IfSome action (IsSidedAction size.split size.d size.atoms)) }
 {
-    if !is_sided(size, row.known) || !is_cost_listed(size.d, row.cost) {
+    if !is_sided(size, given.known) || !is_cost_listed(size.d, given.cost) {
         return Ok(None);
     }
-    if !is_apart(row.cost) || !is_beside(row.cost, row.known) {
+    if !is_apart(given.cost) || !is_beside(given.cost, given.known) {
         return Ok(None);
     }
     Ok(Some(CaseAction {
-        pre: cases_of(alloc, size, size.atoms + 1, row.pre)?,
-        add: cases_of(alloc, size, size.atoms, row.add)?,
-        del: cases_of(alloc, size, size.atoms + 1, row.del)?,
-        cost: row.cost,
-        known: row.known,
+        pre: cases_of(alloc, size, size.atoms + 1, given.pre)?,
+        add: cases_of(alloc, size, size.atoms, given.add)?,
+        del: cases_of(alloc, size, size.atoms + 1, given.del)?,
+        cost: given.cost,
+        known: given.known,
     }))
 }
 
-fn actions_of(alloc: Global, size: Size, rows: &[Row<'_>]) -> Result<List<CaseAction>, NoMemory>
+fn actions_of(
+    alloc: Global,
+    size: Size,
+    list: &[GivenAction<'_>],
+) -> Result<List<CaseAction>, NoMemory>
     requires { size.atoms ≤ 4096 }
     ensures each { IfOk result (All (IsSidedAction size.split size.d size.atoms)) }
-    ensures count { IfOk result (λ actions. length actions ≤ length rows.now) }
+    ensures count { IfOk result (λ actions. length actions ≤ length list.now) }
 {
     let mut actions = List::empty(alloc);
-    for row in rows {
-        if let Some(action) = action_of(alloc, size, row)? {
+    for given in list {
+        if let Some(action) = action_of(alloc, size, given)? {
             actions.push(action)?;
         }
     }
     Ok(actions)
 }
 
-/// The table of the given cases and rows, but for those that no table has.
+/// The table of the given cases and actions, without those that no table has.
 pub fn table_of(
     alloc: Global,
     size: Size,
     start: &[Case],
     goal: &[Case],
-    rows: &[Row<'_>],
+    list: &[GivenAction<'_>],
 ) -> Result<CaseTable, NoMemory>
     requires split { size.split ≤ size.d }
     requires differences { size.d ≤ 256 }
     requires atoms { size.atoms ≤ 4096 }
-    requires rows { length rows.now ≤ 50000 }
+    requires list { length list.now ≤ 50000 }
     ensures { IfOk result (λ table. table.d ≡ size.d) }
 {
     Ok(CaseTable {
@@ -164,6 +172,6 @@ pub fn table_of(
         atoms: size.atoms,
         start: cases_of(alloc, size, size.atoms, start)?,
         goal: cases_of(alloc, size, size.atoms + 1, goal)?,
-        actions: actions_of(alloc, size, rows)?,
+        actions: actions_of(alloc, size, list)?,
     })
 }

@@ -4,7 +4,7 @@ ghost use Rattle.std.specs.Prelude.{◌≡◌, ◌≤◌, IsTrue, IfOk};
 ghost use Rattle.case_kit.specs.Sound.{is_apart};
 ghost use Rattle.cube_kit.specs.Cubes.{IsCube};
 
-use crate::making::{Row, Size, table_of};
+use crate::making::{GivenAction, Size, table_of};
 use case_kit::{
     Case, CaseCost, CaseTable, CaseValue, When, law_child, law_lists, law_members, law_relaxed,
     law_sums,
@@ -44,13 +44,13 @@ fn number(cost: u32) -> CaseCost
 }
 
 // N. Atoms: 0 (at a), 1 (at b), 2 (at c), 3 (link a b), 4 (link b c). Actions: 0 (go a b), 1 (go b
-// c), 2 (ride). What go costs differs: 4
-// where it is left, and the road where it is told; the road from b to c is 9 or 5.
+// c), 2 (ride). The cost of go differs: 4 where it is left, and the road where it is told; the road
+// from b to c is 9 or 5.
 fn n_table(alloc: Global) -> Result<CaseTable, Fail>
     ensures { IfOk result (λ table. table.d ≡ 2) }
 {
     let four = CaseValue::One(Some(4));
-    let first = Row {
+    let first = GivenAction {
         pre: &[always(0), always(3)],
         add: &[always(1)],
         del: &[always(0)],
@@ -66,7 +66,7 @@ fn n_table(alloc: Global) -> Result<CaseTable, Fail>
         told: Some(9),
         left: Some(5),
     };
-    let second = Row {
+    let second = GivenAction {
         pre: &[always(1), always(4)],
         add: &[always(2)],
         del: &[always(1)],
@@ -77,7 +77,7 @@ fn n_table(alloc: Global) -> Result<CaseTable, Fail>
         },
         known: When::Always,
     };
-    let ride = Row {
+    let ride = GivenAction {
         pre: &[always(0)],
         add: &[always(2)],
         del: &[],
@@ -120,7 +120,7 @@ fn decided(d: u32, cube: Cube, place: u32, side: Side) -> Cube
     }
 }
 
-// What an action costs at least and at most over a cube.
+// The least and the greatest cost of an action over a cube.
 #[derive(Clone, Copy)]
 struct Costs<'a> {
     told: &'a [u32],
@@ -179,7 +179,7 @@ fn the_root_of_n_has_costs_that_no_member_has_together(rt: HostRuntime) -> Resul
     assert_cheapest(&rt, rt.alloc(), &table.restrictive(rt.alloc(), &root)?, 10)
 }
 
-// The told sets of N, and what the cheapest list costs after each.
+// The told sets of N, and the cost of the cheapest list after each.
 #[test]
 fn both_tasks_of_a_single_cube_of_n_are_its_member(rt: HostRuntime) -> Result<(), Fail> {
     let table = n_table(rt.alloc())?.copy(rt.alloc())?;
@@ -203,13 +203,13 @@ fn both_tasks_of_a_single_cube_of_n_are_its_member(rt: HostRuntime) -> Result<()
     Ok(())
 }
 
-// Five differences: 1 and 2 are of what the planner's model alone has, 3 to 5 of what the user's
-// model alone has. Atom 1 is true at the
-// start by either of two differences, and the action is known where difference 5 is left.
+// Five differences: 1 and 2 of what only the planner's model has, 3 to 5 of what only the user's
+// model has. Atom 1 is true at the start by either of two differences, and the action is known
+// where difference 5 is left.
 fn sided_table(alloc: Global) -> Result<CaseTable, Fail>
     ensures { IfOk result (λ table. table.d ≡ 5) }
 {
-    let action = Row {
+    let action = GivenAction {
         pre: &[told(1, 2), always(0)],
         add: &[always(2), left(3, 3)],
         del: &[told(0, 1), left(1, 4)],
