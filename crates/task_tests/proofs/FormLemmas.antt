@@ -1,11 +1,9 @@
--- One state more of a list.
-use Rattle.std.proofs.Common.{◌≡◌, ℕ, ◌+◌, List, take, Some, All, sym, ap, subst, arith, slice_get, length}
+-- One more state of a list.
+use Rattle.std.proofs.Common.{◌≡◌, ℕ, ◌+◌, List, take, Some, ap, arith, slice_get, length}
 use Rattle.std.proofs.lemmas.List.{length-append}
-use Rattle.std.proofs.lemmas.List.Elements.{All-push}
 use Rattle.bound_cert.specs.declared.proof.BoundState.{BoundState}
 use Rattle.bound_cert.specs.Formed.{cuts_of}
 use Rattle.bound_cert.specs.Lines.{lines, state_lines}
-use Rattle.bound_cert.proofs.ListLemmas.{take_next}
 use Rattle.bound_cert.proofs.LineLemmas.{lines_next, length-state_lines}
 
 pub counted_next : (atoms : ℕ) (states : List BoundState) (i : ℕ) (s : BoundState) (count : ℕ) → slice_get states i ≡ Some s → length (lines atoms (take i states)) ≡ count

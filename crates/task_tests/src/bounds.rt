@@ -1,7 +1,7 @@
 //! Tests of bound proofs.
 
 use crate::forming::are_formed;
-use crate::making::{CutRow, StateRow, action, proof_of, task_of};
+use crate::making::{GivenCut, GivenState, action, proof_of, task_of};
 use bound_cert::{BoundFault, BoundRule, Scratch, check_bound};
 use std::alloc::Global;
 use std::process::Abort;
@@ -19,23 +19,23 @@ fn o_task(alloc: Global) -> Result<Task, Fail> {
 }
 
 // The start, expanded.
-const START: StateRow<'static> = StateRow {
+const START: GivenState<'static> = GivenState {
     number: 0,
     state: &[1, 2],
     cuts: None,
 };
 
 // The state after open, pruned by these cuts.
-fn opened<'a>(cuts: &'a [CutRow<'a>]) -> StateRow<'a> {
-    StateRow {
+fn opened<'a>(cuts: &'a [GivenCut<'a>]) -> GivenState<'a> {
+    GivenState {
         number: 0,
         state: &[1, 2, 3],
         cuts: Some(cuts),
     }
 }
 
-fn cut(weight: u64, lacks: &[u32]) -> CutRow<'_> {
-    CutRow { weight, lacks }
+fn cut(weight: u64, lacks: &[u32]) -> GivenCut<'_> {
+    GivenCut { weight, lacks }
 }
 
 fn fault(line: u32, rule: BoundRule) -> Result<(), BoundFault> {
@@ -46,11 +46,11 @@ fn assert_told(
     rt: &impl Abort,
     alloc: Global,
     k: u64,
-    rows: &[StateRow<'_>],
+    list: &[GivenState<'_>],
     wanted: Result<(), BoundFault>,
 ) -> Result<(), Fail> {
     let task = o_task(alloc)?;
-    let proof = proof_of(alloc, 4, k, rows)?;
+    let proof = proof_of(alloc, 4, k, list)?;
     assert!(rt; are_formed(&task, &proof.states));
     let mut scratch = Scratch::for_task(alloc, &task)?;
     let told = check_bound(&task, k, &proof, &mut scratch);

@@ -10,7 +10,7 @@ use task_kit::{Cuts, Task, TaskView};
 
 const MOST: u64 = 70368744177663;
 
-// A cut that is wanted.
+// An expected cut.
 #[derive(Clone, Copy)]
 struct Wanted<'a> {
     weight: u64,
@@ -51,7 +51,7 @@ fn each_step_of_a_way_is_a_cut(rt: HostRuntime) -> Result<(), Fail> {
     assert_cuts(&rt, rt.alloc(), task, &[cut(3, &[0]), cut(2, &[0, 2])])
 }
 
-// By the closures of the start alone the cuts would weigh 4.
+// Cut only by the closures of the start, the cuts would weigh 4.
 #[test]
 fn each_goal_atom_is_paid_for(rt: HostRuntime) -> Result<(), Fail> {
     let one = action(&[2], &[0], &[], Some(3));

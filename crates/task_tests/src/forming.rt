@@ -1,4 +1,4 @@
-//! Whether the states of a bound proof are as its checker wants them.
+//! Tests of whether the states of a bound proof have the form that its checker asks for.
 ghost use Rattle.std.specs.Prelude.{ℕ, ◌≡◌, ◌+◌, ◌^◌, ◌<◌, true, Some, length, slice_get, All};
 ghost use Rattle.std.specs.Prelude.{IsTrue};
 ghost use Rattle.bound_cert.specs.declared.proof.BoundState.{BoundState};
@@ -125,7 +125,7 @@ fn are_few(states: &List<BoundState>) -> bool
     true
 }
 
-/// Whether the states are of the task's width and in order, and their cuts in range.
+/// Whether the states have the task's width and are in order, and their cuts are in range.
 pub fn are_formed<T: TaskView>(task: &T, states: &List<BoundState>) -> bool
     ensures { IsTrue result → IsFormed (T.seen task.now) states.now }
 {

@@ -1,5 +1,4 @@
-//! Tasks on numbers: judged and searched, their cuts, and what is said of bound proofs, on tables
-//! of small ones.
+//! Tests of tasks on numbers, on small ones: judging, searching, cuts and bound proofs.
 #![tactic(auto)]
 
 #[cfg(test)]

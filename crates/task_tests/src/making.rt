@@ -1,4 +1,4 @@
-//! Small tasks and bound proofs for tests, from rows of numbers.
+//! Small tasks and bound proofs for tests, made of lists of numbers.
 ghost use Rattle.std.specs.Prelude.{◌≡◌, ◌+◌, ◌^◌, ◌<◌, ◌≤◌, All, length, IfOk, unwrap_or};
 ghost use Rattle.task_kit.specs.Tasks.{AllBelow, IsAction};
 ghost use Rattle.task_kit.specs.Kept.{action_meaning};
@@ -9,17 +9,22 @@ use mre_base::{Bits, List, NoMemory};
 use std::alloc::Global;
 use task_kit::{Cut, Cuts, Task, TaskAction};
 
-/// What an action needs, what it makes true and what it makes false, and its cost.
+/// An action as given: its preconditions, adds, deletes and cost.
 #[derive(Clone, Copy)]
-pub struct Row<'a> {
+pub struct GivenAction<'a> {
     pub pre: &'a [u32],
     pub add: &'a [u32],
     pub del: &'a [u32],
     pub cost: Option<u32>,
 }
 
-pub fn action<'a>(pre: &'a [u32], add: &'a [u32], del: &'a [u32], cost: Option<u32>) -> Row<'a> {
-    Row {
+pub fn action<'a>(
+    pre: &'a [u32],
+    add: &'a [u32],
+    del: &'a [u32],
+    cost: Option<u32>,
+) -> GivenAction<'a> {
+    GivenAction {
         pre,
         add,
         del,
@@ -54,34 +59,38 @@ fn set_below(alloc: Global, width: u32, bound: u32, numbers: &[u32]) -> Result<B
     Ok(bits)
 }
 
-// The cost that the row names, which is in its range.
-fn cost_of(row: &Row<'_>) -> Option<u32>
-    ensures same { result ≡ row.now.cost }
+// The given cost, which is in its range.
+fn cost_of(given: &GivenAction<'_>) -> Option<u32>
+    ensures same { result ≡ given.now.cost }
     ensures fits { unwrap_or result 0 < 2 ^ 32 }
 {
-    Some(row.cost?)
+    Some(given.cost?)
 }
 
-fn action_of(alloc: Global, atoms: u32, row: &Row<'_>) -> Result<TaskAction, NoMemory>
+fn action_of(alloc: Global, atoms: u32, given: &GivenAction<'_>) -> Result<TaskAction, NoMemory>
     requires { atoms + 1 < 2 ^ 32 }
     ensures { IfOk result (λ action. IsAction atoms (action_meaning action)) }
 {
     Ok(TaskAction {
-        pre: list_below(alloc, atoms + 1, row.pre)?,
-        add: list_below(alloc, atoms, row.add)?,
-        del: list_below(alloc, atoms + 1, row.del)?,
-        cost: cost_of(row),
+        pre: list_below(alloc, atoms + 1, given.pre)?,
+        add: list_below(alloc, atoms, given.add)?,
+        del: list_below(alloc, atoms + 1, given.del)?,
+        cost: cost_of(given),
     })
 }
 
-fn actions_of(alloc: Global, atoms: u32, rows: &[Row<'_>]) -> Result<List<TaskAction>, NoMemory>
+fn actions_of(
+    alloc: Global,
+    atoms: u32,
+    list: &[GivenAction<'_>],
+) -> Result<List<TaskAction>, NoMemory>
     requires { atoms + 1 < 2 ^ 32 }
     ensures each { IfOk result (All (λ action. IsAction atoms (action_meaning action))) }
-    ensures count { IfOk result (λ actions. length actions ≡ length rows.now) }
+    ensures count { IfOk result (λ actions. length actions ≡ length list.now) }
 {
     let mut actions = List::empty(alloc);
-    for row in rows {
-        actions.push(action_of(alloc, atoms, row)?)?;
+    for given in list {
+        actions.push(action_of(alloc, atoms, given)?)?;
     }
     Ok(actions)
 }
@@ -91,14 +100,14 @@ pub fn task_of(
     atoms: u32,
     start: &[u32],
     goal: &[u32],
-    rows: &[Row<'_>],
+    list: &[GivenAction<'_>],
 ) -> Result<Task, NoMemory>
     requires atoms { atoms + 1 < 2 ^ 32 }
-    requires few { length rows.now < 2 ^ 32 }
+    requires few { length list.now < 2 ^ 32 }
 {
     let start = set_below(alloc, atoms + 1, atoms, start)?;
     let goal = set_below(alloc, atoms + 1, atoms + 1, goal)?;
-    let actions = actions_of(alloc, atoms, rows)?;
+    let actions = actions_of(alloc, atoms, list)?;
     Ok(Task {
         atoms,
         start,
@@ -107,43 +116,43 @@ pub fn task_of(
     })
 }
 
-/// A cut's weight and the atoms that it lacks.
+/// A cut as given: its weight and the atoms that its set lacks.
 #[derive(Clone, Copy)]
-pub struct CutRow<'a> {
+pub struct GivenCut<'a> {
     pub weight: u64,
     pub lacks: &'a [u32],
 }
 
-/// A state's number and atoms, and its cuts where it was pruned.
+/// A state as given: its number and atoms, and its cuts if it was pruned.
 #[derive(Clone, Copy)]
-pub struct StateRow<'a> {
+pub struct GivenState<'a> {
     pub number: u64,
     pub state: &'a [u32],
-    pub cuts: Option<&'a [CutRow<'a>]>,
+    pub cuts: Option<&'a [GivenCut<'a>]>,
 }
 
-fn cuts_of(alloc: Global, atoms: u32, rows: &[CutRow<'_>]) -> Result<Cuts, NoMemory> {
+fn cuts_of(alloc: Global, atoms: u32, list: &[GivenCut<'_>]) -> Result<Cuts, NoMemory> {
     let mut cuts = List::empty(alloc);
-    for row in rows {
-        let lacks = list_below(alloc, atoms, row.lacks)?;
+    for given in list {
+        let lacks = list_below(alloc, atoms, given.lacks)?;
         cuts.push(Cut {
-            weight: row.weight,
+            weight: given.weight,
             lacks,
         })?;
     }
     Ok(cuts)
 }
 
-fn state_of(alloc: Global, atoms: u32, row: &StateRow<'_>) -> Result<BoundState, NoMemory>
+fn state_of(alloc: Global, atoms: u32, given: &GivenState<'_>) -> Result<BoundState, NoMemory>
     requires { atoms + 1 < 2 ^ 32 }
 {
-    let state = set_below(alloc, atoms + 1, atoms, row.state)?;
-    let how = match row.cuts {
+    let state = set_below(alloc, atoms + 1, atoms, given.state)?;
+    let how = match given.cuts {
         None => How::Expanded,
         Some(cuts) => How::Pruned(cuts_of(alloc, atoms, cuts)?),
     };
     Ok(BoundState {
-        number: row.number,
+        number: given.number,
         state,
         how,
     })
@@ -154,14 +163,14 @@ pub fn proof_of(
     alloc: Global,
     atoms: u32,
     k: u64,
-    rows: &[StateRow<'_>],
+    list: &[GivenState<'_>],
 ) -> Result<BoundProof, NoMemory>
     requires { atoms + 1 < 2 ^ 32 }
     ensures { IfOk result (λ proof. proof.k ≡ k) }
 {
     let mut states = List::empty(alloc);
-    for row in rows {
-        states.push(state_of(alloc, atoms, row)?)?;
+    for given in list {
+        states.push(state_of(alloc, atoms, given)?)?;
     }
     Ok(BoundProof { k, states })
 }

@@ -14,15 +14,16 @@ fn w_task(alloc: Global, start: &[u32]) -> Result<Task, Fail> {
     Ok(task_of(alloc, 3, start, &[0], &[jump, walk])?)
 }
 
-// V with what jump needs and costs. Atoms: 0 (g), 1 (p), 2 (r). Actions: 0 (jump), 1 (walk).
+// V with the precondition and the cost of jump. Atoms: 0 (g), 1 (p), 2 (r). Actions: 0 (jump), 1
+// (walk).
 fn v_task(alloc: Global, start: &[u32], needs: &[u32], cost: u32) -> Result<Task, Fail> {
     let jump = action(needs, &[0], &[], Some(cost));
     let walk = action(&[1], &[0], &[], Some(2));
     Ok(task_of(alloc, 3, start, &[0], &[jump, walk])?)
 }
 
-// O with what open needs and what hop and jump cost. Atoms: 0 (g), 1 (p), 2 (r), 3 (s). Actions: 0
-// (hop), 1 (jump), 2 (open), 3 (walk).
+// O with the precondition of open and the costs of hop and jump. Atoms: 0 (g), 1 (p), 2 (r), 3 (s).
+// Actions: 0 (hop), 1 (jump), 2 (open), 3 (walk).
 fn o_task(alloc: Global, start: &[u32], needs: &[u32], hop: u32, jump: u32) -> Result<Task, Fail> {
     let hop = action(&[3], &[0], &[], Some(hop));
     let jump = action(&[3], &[0], &[], Some(jump));
@@ -31,9 +32,8 @@ fn o_task(alloc: Global, start: &[u32], needs: &[u32], hop: u32, jump: u32) -> R
     Ok(task_of(alloc, 4, start, &[0], &[hop, jump, open, walk])?)
 }
 
-// N with what the two steps of go cost. Atoms: 0 (at a), 1 (at b), 2 (at c), 3 (link a b), 4 (link
-// b c).
-// Actions: 0 (go a b), 1 (go b a), which has no cost, 2 (go b c), 3 (ride).
+// N with the costs of the two steps of go. Atoms: 0 (at a), 1 (at b), 2 (at c), 3 (link a b), 4
+// (link b c). Actions: 0 (go a b), 1 (go b a), which has no cost, 2 (go b c), 3 (ride).
 fn n_task(alloc: Global, first: u32, second: u32) -> Result<Task, Fail> {
     let there = action(&[0, 3], &[1], &[0], Some(first));
     let back = action(&[1], &[0], &[1], None);
@@ -100,9 +100,8 @@ fn assert_none(rt: &impl Abort, alloc: Global, task: &Task, k: u64) -> Result<()
     Ok(())
 }
 
-// The cheapest list costs what is wanted: a search below one more and one below the greatest bound
-// find it, and a search below the cost
-// finds none.
+// Checks the cost of the cheapest list: a search below one more and a search below the greatest
+// bound find it, and a search below the cost finds none.
 fn assert_cheapest(
     rt: &impl Abort,
     alloc: Global,
@@ -269,7 +268,8 @@ fn a_goal_at_the_start_costs_nothing(rt: HostRuntime) -> Result<(), Fail> {
     )
 }
 
-// The way over 2 is found later and is cheaper. Atom 1 stays where an action deletes and adds it.
+// The path over 2 is found later and is cheaper. Atom 1 stays true when an action deletes and adds
+// it.
 #[test]
 fn a_cheaper_way_is_taken(rt: HostRuntime) -> Result<(), Fail> {
     let dear = action(&[0], &[1], &[0], Some(5));

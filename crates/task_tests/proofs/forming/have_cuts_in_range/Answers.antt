@@ -1,8 +1,8 @@
 use Rattle.std.proofs.Common.{All, subst, arith}
 use Rattle.std.proofs.lemmas.List.{take_all}
 use Rattle.bound_cert.specs.Formed.{IsInRange, cuts_of}
-use Rattle.task_tests.proofs.forming.have_cuts_in_range.Goals as goal
 use Rattle.mre_base.proofs.Listed.{all_take_item}
+use Rattle.task_tests.proofs.forming.have_cuts_in_range.Goals as goal
 
 pub loop-place-preserved : goal.loop-place-preserved
 loop-place-preserved c =
