@@ -2,8 +2,8 @@
 
 ghost use Rattle.std.specs.Prelude.{◌≡◌, IfOk, OnOk};
 ghost use Rattle.std.specs.BTreeMap.{get};
-ghost use Rattle.feature_diff.specs.Rows.{form_cmp, spots_of, AddsPlannerPlace, AddsUserPlace, AreRows};
-ghost use Rattle.feature_diff.specs.Rows.{IsLaidOut};
+ghost use Rattle.feature_diff.specs.Rows.{form_cmp, spots_of, AddsPlannerPlace, AddsUserPlace};
+ghost use Rattle.feature_diff.specs.Rows.{AreRows, IsLaidOut};
 
 use crate::form::Form;
 use mre_base::{List, NoMemory, Text};
