@@ -27,7 +27,7 @@ use Rattle.feature_diff.specs.Blending.{those, blended, blended_schema, AreBlend
 use Rattle.feature_diff.proofs.JoinLemmas.{pairs_append}
 use Rattle.feature_diff.proofs.ValueLemmas.{key_decides}
 use Rattle.mre_base.proofs.Listed.{item_at}
-use Rattle.mre_base.proofs.Tests.{or_false, beq_same as beq_is}
+use Rattle.mre_base.proofs.Tests.{or_false, beq_same}
 
 -- ---- the loop that keeps some entries
 
@@ -56,9 +56,9 @@ module _ {X : Type 0} (test : X → Bool) (wanted : Bool) (xs : List X) (i : ℕ
 
 -- ---- what a blended list contains
 
-beq_same : (b c : Bool) → b ≡ c → beq b c ≡ true
-beq_same true c e = let same : c ≡ true = sym e in rw same refl
-beq_same false c e = let same : c ≡ false = sym e in rw same refl
+beq_alike : (b c : Bool) → b ≡ c → beq b c ≡ true
+beq_alike true c e = let same : c ≡ true = sym e in rw same refl
+beq_alike false c e = let same : c ≡ false = sym e in rw same refl
 
 beq_other : (b : Bool) → beq b (not b) ≡ false
 beq_other true = refl
@@ -70,7 +70,7 @@ module _ {X : Type 0} (hits : X → Bool) (test : X → Bool) (b : Bool) (agree 
   any_kept (x ∷ xs) =
       ⊎_elim
       (λ hit.
-      let passes : beq (test x) b ≡ true = beq_same (test x) b (agree x hit) in
+      let passes : beq (test x) b ≡ true = beq_alike (test x) b (agree x hit) in
       ap (λ c. list_any hits (cond c (x ∷ those test b xs) (those test b xs))) passes
       ∙ ap (λ c. c || list_any hits (those test b xs)) hit
       ∙ sym (ap (λ c. c || list_any hits xs) hit))
@@ -121,7 +121,7 @@ module _ (f : ℕ) (xs : List ℕ) (test : Key → Bool) (b : Bool) (agree : (v 
   value_kept (v ∷ vs) rest none =
       ⊎_elim
       (λ hit.
-      let passes : beq (test v) b ≡ true = beq_same (test v) b (agree v hit) in
+      let passes : beq (test v) b ≡ true = beq_alike (test v) b (agree v hit) in
       ap (λ c. value_of (cond c (v ∷ those test b vs) (those test b vs) ++ rest) f xs) passes
       ∙ ap (λ c. cond c (Some v.2) (value_of (those test b vs ++ rest) f xs)) hit
       ∙ sym (ap (λ c. cond c (Some v.2) (value_of vs f xs)) hit))
@@ -172,7 +172,7 @@ blended_facts passes R test respects ps us first second = record {
       (All-weaker (λ x. beq (test x) true ≡ true) (λ x. All (λ y. ¬ R x y) (those test false us))
       (λ x on.
       All-weaker (λ y. beq (test y) false ≡ true) (λ y. ¬ R x y)
-      (λ y off r. true≢false (sym (beq_is (test x) true on) ∙ respects x y r ∙ beq_is (test y) false off))
+      (λ y off r. true≢false (sym (beq_same (test x) true on) ∙ respects x y r ∙ beq_same (test y) false off))
       (those test false us) (filter_passes (λ y. beq (test y) false) us))
       (those test true ps) (filter_passes (λ x. beq (test x) true) ps));
 }

@@ -9,7 +9,7 @@ use Rattle.std.proofs.lemmas.List.Elements.{All-weaker}
 use Rattle.mre_base.proofs.Loops.{take_item}
 use Rattle.feature_diff.specs.declared.difference.Difference.{Difference}
 use Rattle.feature_diff.specs.declared.gathered.Gathered.{Gathered}
-use Rattle.feature_diff.specs.declared.rows.Row.{Row}
+use Rattle.feature_diff.specs.declared.rows.FormRow.{FormRow}
 use Rattle.feature_diff.specs.Gathering.{Grows, IsWithin, AreWithin}
 use Rattle.feature_diff.specs.Rows.{StandsAt, IsRow, AreRows}
 
@@ -40,11 +40,11 @@ stands_within form xs bound f (Some place) stands = some_map (slice_get xs place
     some_map (Some x) is e = slice_get_within xs place x is
 
 -- each row is within the lists
-pub rows_within : {X : Type 0} (form : X → List ℕ) (planner user : List X) (rows : List Row) → AreRows (map form planner) (map form user) rows → All (AreWithin planner user) rows
+pub rows_within : {X : Type 0} (form : X → List ℕ) (planner user : List X) (rows : List FormRow) → AreRows (map form planner) (map form user) rows → All (AreWithin planner user) rows
 rows_within form planner user rows are =
     All-weaker (IsRow (map form planner) (map form user)) (AreWithin planner user)
     (λ row is. (stands_within form planner (length (map form planner)) row.form row.spots.planner is.0, stands_within form user (length (map form user)) row.form row.spots.user is.1))
     rows are.each
 
-pub rows_of : {X : Type 0} (form : X → List ℕ) (planner user : List X) (ps us : List (List ℕ)) (rows : List Row) → ps ≡ map form planner → us ≡ map form user → AreRows ps us rows → AreRows (map form planner) (map form user) rows
+pub rows_of : {X : Type 0} (form : X → List ℕ) (planner user : List X) (ps us : List (List ℕ)) (rows : List FormRow) → ps ≡ map form planner → us ≡ map form user → AreRows ps us rows → AreRows (map form planner) (map form user) rows
 rows_of form planner user ps us rows e f are = subst (λ xs. AreRows xs (map form user) rows) e (subst (λ ys. AreRows ps ys rows) f are)

@@ -12,7 +12,7 @@ use Rattle.model_kit.specs.Differences.{group, IsPrintedBefore, IsListedBefore}
 use Rattle.model_kit.specs.Printed.{printed}
 use Rattle.model_kit.proofs.ListLemmas.{flat_contains}
 use Rattle.feature_diff.specs.declared.difference.Difference.{Difference}
-use Rattle.feature_diff.specs.declared.rows.Row.{Row}
+use Rattle.feature_diff.specs.declared.rows.FormRow.{FormRow}
 use Rattle.feature_diff.specs.Differing.{place_of, places_of}
 use Rattle.feature_diff.specs.Rows.{StandsAt, IsRow, AreRows}
 use Rattle.feature_diff.specs.Gathering.{alone_at, both_at, spots_told, row_told}
@@ -49,7 +49,7 @@ module _ (planner user : Model) (g : ℕ) where
   abbrev Agrees : Place → Type 0
   Agrees p = meaning planner p ≡ meaning user p
 
-  -- what is told of an entry that both lists have
+  -- the difference of an entry that both lists have
   abbrev pub BothTold : Place → Option Difference → Type 0
   BothTold p None = meaning planner p ≡ meaning user p
   BothTold p (Some d) = IsOne planner user (λ n. n ≡ g) d × (place_of d ≡ p)
@@ -65,8 +65,8 @@ module _ (planner user : Model) (g : ℕ) where
   after_row : (f form : List ℕ) (ds : List Difference) → IsPrintedBefore f form → IsTold form ds → All (λ d. IsPrintedBefore f (printed planner.words (place_of d))) ds
   after_row f form ds before told = All-weaker (λ d. printed planner.words (place_of d) ≡ form) (λ d. IsPrintedBefore f (printed planner.words (place_of d))) (λ d is. subst (IsPrintedBefore f) (sym is) before) ds told.printed_as
 
-  module _ (told : Row → List Difference) where
-    after_rows : (f : List ℕ) (rows : List Row) → All (λ r. IsPrintedBefore f r.form) rows → All (λ r. IsTold r.form (told r)) rows
+  module _ (told : FormRow → List Difference) where
+    after_rows : (f : List ℕ) (rows : List FormRow) → All (λ r. IsPrintedBefore f r.form) rows → All (λ r. IsTold r.form (told r)) rows
         → All (λ d. IsPrintedBefore f (printed planner.words (place_of d))) (flat_map told rows)
     after_rows f [] before each = All-nil (λ d. IsPrintedBefore f (printed planner.words (place_of d)))
     after_rows f (r ∷ rows) before each =
@@ -74,7 +74,7 @@ module _ (planner user : Model) (g : ℕ) where
         (after_row f r.form (told r) (All-head (λ s. IsPrintedBefore f s.form) r rows before) (All-head (λ s. IsTold s.form (told s)) r rows each))
         (after_rows f rows (All-tail (λ s. IsPrintedBefore f s.form) r rows before) (All-tail (λ s. IsTold s.form (told s)) r rows each))
 
-    each_here : (rows : List Row) → All (λ r. IsTold r.form (told r)) rows → All IsHere (flat_map told rows)
+    each_here : (rows : List FormRow) → All (λ r. IsTold r.form (told r)) rows → All IsHere (flat_map told rows)
     each_here [] each = All-nil IsHere
     each_here (r ∷ rows) each =
         All-append IsHere (told r) (flat_map told rows) (All-head (λ s. IsTold s.form (told s)) r rows each).each (each_here rows (All-tail (λ s. IsTold s.form (told s)) r rows each))
@@ -94,7 +94,7 @@ module _ (planner user : Model) (g : ℕ) where
         pairs
     one_more form (d ∷ (c ∷ ds)) es is here after pairs = absurd (omega (arith, is.short))
 
-    in_order : (rows : List Row) → All (λ r. IsTold r.form (told r)) rows → AllPairs (λ r s. IsPrintedBefore r.form s.form) rows → AllPairs (IsListedBefore planner.words) (places_of (flat_map told rows))
+    in_order : (rows : List FormRow) → All (λ r. IsTold r.form (told r)) rows → AllPairs (λ r s. IsPrintedBefore r.form s.form) rows → AllPairs (IsListedBefore planner.words) (places_of (flat_map told rows))
     in_order [] each ascend = pairs_nil (IsListedBefore planner.words)
     in_order (r ∷ rows) each ascend =
         let later = All-tail (λ s. IsTold s.form (told s)) r rows each in
@@ -168,8 +168,8 @@ module _ (planner user : Model) (g : ℕ) where
           by (Some x) None is_o is_q e h = absurd (cc)
           by (Some x) (Some y) is_o is_q e h = let same : form x ≡ f = cc in let too : form y ≡ f = cc in both_told f x y (item_contained ps i x is_o) (item_contained us j y is_q) same too
 
-      module _ (rows : List Row) (are : AreRows (map form ps) (map form us) rows) where
-        abbrev told : Row → List Difference
+      module _ (rows : List FormRow) (are : AreRows (map form ps) (map form us) rows) where
+        abbrev told : FormRow → List Difference
         told = row_told alone both ps us
 
         each_good : All (λ r. IsGood r.form (told r)) rows

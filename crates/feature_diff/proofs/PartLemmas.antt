@@ -20,15 +20,15 @@ use Rattle.model_kit.proofs.Alike.{same_schema_atom-decides}
 use Rattle.model_kit.proofs.FormLemmas.{schema_atom_form-injective}
 use Rattle.model_kit.proofs.ModelFacts.{SchemaFacts, facts_of_model}
 use Rattle.feature_diff.specs.declared.gathered.Gathered.{Gathered}
-use Rattle.feature_diff.specs.declared.schema_parts.Part.{Part}
-use Rattle.feature_diff.specs.declared.schema_parts.Part.TheVariants.{Pre, Add, Del}
+use Rattle.feature_diff.specs.declared.schema_parts.SchemaPart.{SchemaPart}
+use Rattle.feature_diff.specs.declared.schema_parts.SchemaPart.TheVariants.{Pre, Add, Del}
 use Rattle.feature_diff.specs.Gathering.{row_told, AllTold}
 use Rattle.feature_diff.specs.Parts.{GainsGroup}
 use Rattle.feature_diff.specs.Telling.{part_of, place_in, group_in, told_in}
 use Rattle.feature_diff.proofs.GroupLemmas.{group_part}
 use Rattle.feature_diff.proofs.FeatureLemmas.{AreFeatures, feature_tells}
 
-part_kept : (words : Vocabulary) (params : List ℕ) (schema : Schema) → SchemaFacts words params schema → (part : Part) → All (λ f. IsTrue (is_schema_atom words params f)) (part_of part schema)
+part_kept : (words : Vocabulary) (params : List ℕ) (schema : Schema) → SchemaFacts words params schema → (part : SchemaPart) → All (λ f. IsTrue (is_schema_atom words params f)) (part_of part schema)
 part_kept words params schema facts Pre = facts.pre_kept.fit
 part_kept words params schema facts Add = facts.add_kept.fit
 part_kept words params schema facts Del = facts.del_kept.fit
@@ -39,7 +39,7 @@ schema_numbered words model same i lt = let count : length model.schemas ≡ len
 
 -- the atoms of a schema fit the parameters of its action
 pub part_fits : (words : Vocabulary) (model : Model) → model.words ≡ words → (i : ℕ) (schema : Schema) (action : Signature) → slice_get model.schemas i ≡ Some schema → slice_get words.actions i ≡ Some action
-    → (part : Part) → All (λ f. IsTrue (is_schema_atom words action.params f)) (part_of part schema)
+    → (part : SchemaPart) → All (λ f. IsTrue (is_schema_atom words action.params f)) (part_of part schema)
 part_fits words model same i schema action at there part =
     let kept : SchemaFacts model.words action.params schema = (facts_of_model model).schemas_kept i schema action at (subst (λ w. slice_get w.actions i ≡ Some action) (sym same) there) in
     subst (λ w. All (λ f. IsTrue (is_schema_atom w action.params f)) (part_of part schema)) same (part_kept model.words action.params schema kept part)
@@ -47,7 +47,7 @@ part_fits words model same i schema action at there part =
 pub part_atoms : (words : Vocabulary) (params : List ℕ) (fs : List SchemaAtom) → All (λ f. IsTrue (is_schema_atom words params f)) fs → All (IsSchemaAtom words) fs
 part_atoms words params fs = All-weaker (λ f. IsTrue (is_schema_atom words params f)) (IsSchemaAtom words) (λ f fit. (params, fit)) fs
 
-atom_at : (words : Vocabulary) (part : Part) (i : ℕ) (p : Place) → group words p ≡ group_in part i → (f : SchemaAtom) × (p ≡ place_in part i f)
+atom_at : (words : Vocabulary) (part : SchemaPart) (i : ℕ) (p : Place) → group words p ≡ group_in part i → (f : SchemaAtom) × (p ≡ place_in part i f)
 atom_at words Pre i (place.Pre j f) e = let same : j ≡ i = omega (arith, e) in (f, ap (λ n. place.Pre n f) same)
 atom_at words Pre i p e = absurd (omega arith)
 atom_at words Add i (place.Add j f) e = let same : j ≡ i = omega (arith, e) in (f, ap (λ n. place.Add n f) same)
@@ -57,7 +57,7 @@ atom_at words Del i p e = absurd (omega arith)
 
 module _ (planner user : Model) (joint : user.words ≡ planner.words) (i : ℕ) (s t : Schema) (action : Signature) (few : length action.params < 2 ^ 64)
     (at_s : slice_get planner.schemas i ≡ Some s) (at_t : slice_get user.schemas i ≡ Some t) (at_action : slice_get planner.words.actions i ≡ Some action) where
-  either_fits : (part : Part) (f : SchemaAtom) → Contains (part_of part s) f ⊎ Contains (part_of part t) f → IsTrue (is_schema_atom planner.words action.params f)
+  either_fits : (part : SchemaPart) (f : SchemaAtom) → Contains (part_of part s) f ⊎ Contains (part_of part t) f → IsTrue (is_schema_atom planner.words action.params f)
   either_fits part f there =
       ⊎_elim
       (λ in_p. All-contains (λ b. IsTrue (is_schema_atom planner.words action.params b)) (part_of part s) f (part_fits planner.words planner refl i s action at_s at_action part) in_p)
@@ -72,7 +72,7 @@ module _ (planner user : Model) (joint : user.words ≡ planner.words) (i : ℕ)
   listed : i < length planner.words.actions
   listed = slice_get_within planner.words.actions i action at_action
 
-  part_features : (part : Part)
+  part_features : (part : SchemaPart)
       → AreFeatures planner user (group_in part i) same_schema_atom same_schema_atom-decides (schema_atom_form planner.words) (place_in part i) (told_in part i) (part_of part s) (part_of part t)
   part_features Pre = record {
     printed_as = λ f. refl;
@@ -111,7 +111,7 @@ module _ (planner user : Model) (joint : user.words ≡ planner.words) (i : ℕ)
     places = λ p e. inr (atom_at planner.words Del i p e);
   }
 
-  pub part_gained : (part : Part) (ps us : List SchemaAtom) → ps ≡ part_of part s → us ≡ part_of part t → (before after : Gathered)
+  pub part_gained : (part : SchemaPart) (ps us : List SchemaAtom) → ps ≡ part_of part s → us ≡ part_of part t → (before after : Gathered)
       → AllTold (told_in part i) (λ f g. None) (schema_atom_form planner.words) ps us before after → GainsGroup planner user (group_in part i) before after
   part_gained part ps us e f before after all =
       let told : AllTold (told_in part i) (λ f g. None) (schema_atom_form planner.words) (part_of part s) (part_of part t) before after =

@@ -21,7 +21,7 @@ use Rattle.std.proofs.lemmas.Slice.Eq.{bytes_eq-Decides}
 use Rattle.std.proofs.lemmas.Map.Text.{is_eq-slice_cmp}
 use Rattle.feature_diff.specs.declared.form.Form.{Form}
 use Rattle.feature_diff.specs.declared.rows.Spots.{Spots}
-use Rattle.feature_diff.specs.declared.rows.Row.{Row}
+use Rattle.feature_diff.specs.declared.rows.FormRow.{FormRow}
 use Rattle.feature_diff.specs.Rows.{form_cmp, StandsAt, spots_of, IsTable, IsRow, AreRows}
 use Rattle.mre_base.proofs.Listed.{item_contained, place_of_contained}
 
@@ -79,13 +79,13 @@ nothing_noted table none planner user q =
     subst P (sym found) ((λ j lt. absurd (omega arith)), (λ j lt. absurd (omega arith)))
 
 -- an entry of the map as a row
-abbrev pub row_of : Form × Spots → Row
+abbrev pub row_of : Form × Spots → FormRow
 row_of entry = record { form = entry.0.text; spots = entry.1 }
 
 form_total : IsTotalOrder form_cmp
 form_total = on_total (λ f. f.text) nat_list_cmp_total
 
-abbrev Ascends : Row → Row → Type 0
+abbrev Ascends : FormRow → FormRow → Type 0
 Ascends r s = IsPrintedBefore r.form s.form
 
 rows_ascend : (es : List (Form × Spots)) → IsStrictlySortedBy form_cmp (keys_of es) → AllPairs Ascends (map row_of es)
@@ -110,7 +110,7 @@ module _ (table : BTreeMap Form Spots) (sorted : IsOrdered form_cmp table) (plan
   -- a form that the map finds is that of a row
   found_row : (form : List ℕ) (o : Option Spots) → get form_cmp table (record { text = form }) ≡ o
       → (StandsAt planner (length planner) form (spots_of o).planner → StandsAt user (length user) form (spots_of o).user → o ≡ None → ⊥)
-      → (row : Row) × Contains (map row_of table.entries) row × (row.form ≡ form)
+      → (row : FormRow) × Contains (map row_of table.entries) row × (row.form ≡ form)
   found_row form None is some =
       let P : Option Spots → Type 0 = λ o. StandsAt planner (length planner) form (spots_of o).planner × StandsAt user (length user) form (spots_of o).user in
       let here = subst P is (known (record { text = form })) in absurd (some here.0 here.1 refl)

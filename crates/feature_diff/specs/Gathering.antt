@@ -5,7 +5,7 @@ use Rattle.std.specs.Prelude.{[], ◌∷◌, ◌++◌, length, map, flat_map, sl
 use Rattle.std.specs.Option.{option_to_list}
 use Rattle.feature_diff.specs.declared.difference.Difference.{Difference}
 use Rattle.feature_diff.specs.declared.gathered.Gathered.{Gathered}
-use Rattle.feature_diff.specs.declared.rows.Row.{Row}
+use Rattle.feature_diff.specs.declared.rows.FormRow.{FormRow}
 use Rattle.feature_diff.specs.Rows.{AreRows}
 
 -- these differences came to those so far
@@ -19,7 +19,7 @@ IsWithin None xs = Unit {0}
 IsWithin (Some place) xs = place < length xs
 
 -- so are the two places of a row
-abbrev pub AreWithin : {X : Type 0} → List X → List X → Row → Type 0
+abbrev pub AreWithin : {X : Type 0} → List X → List X → FormRow → Type 0
 AreWithin planner user row = IsWithin row.spots.planner planner × IsWithin row.spots.user user
 
 module _ {X : Type 0} (alone : X → Bool → Difference) (both : X → X → Option Difference) where
@@ -41,11 +41,11 @@ module _ {X : Type 0} (alone : X → Bool → Difference) (both : X → X → Op
   spots_told planner user None (Some j) = alone_at false (slice_get user j)
   spots_told planner user None None = []
 
-  abbrev pub row_told : List X → List X → Row → List Difference
+  abbrev pub row_told : List X → List X → FormRow → List Difference
   row_told planner user row = spots_told planner user row.spots.planner row.spots.user
 
   -- the differences of two lists, form by form, were added to those so far
   abbrev pub AllTold : (X → List ℕ) → List X → List X → Gathered → Gathered → Type 0
   AllTold form planner user before after =
-      (rows : List Row) × AreRows (map form planner) (map form user) rows
+      (rows : List FormRow) × AreRows (map form planner) (map form user) rows
       × Grows before after (flat_map (row_told planner user) rows)

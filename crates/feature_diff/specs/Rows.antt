@@ -8,7 +8,7 @@ use Rattle.std.specs.BTreeMap.{BTreeMap, get}
 use Rattle.model_kit.specs.Differences.{IsPrintedBefore}
 use Rattle.feature_diff.specs.declared.form.Form.{Form}
 use Rattle.feature_diff.specs.declared.rows.Spots.{Spots}
-use Rattle.feature_diff.specs.declared.rows.Row.{Row}
+use Rattle.feature_diff.specs.declared.rows.FormRow.{FormRow}
 
 abbrev pub form_cmp : Form → Form → Ordering
 form_cmp = on (λ f. f.text) (slice_cmp nat_cmp)
@@ -30,32 +30,32 @@ IsTable planner m user n table =
     × StandsAt user n form.text (spots_of (get form_cmp table form)).user
 
 -- the second map also has the place of this form in the planner's list
-abbrev pub NotesPlanner : BTreeMap Form Spots → BTreeMap Form Spots → List ℕ → ℕ → Type 0
-NotesPlanner before after form place =
+abbrev pub AddsPlannerPlace : BTreeMap Form Spots → BTreeMap Form Spots → List ℕ → ℕ → Type 0
+AddsPlannerPlace before after form place =
     (planner user : List (List ℕ)) (n : ℕ) → slice_get planner place ≡ Some form
     → IsTable planner place user n before → IsTable planner (place + 1) user n after
 
 -- likewise in the user's list
-abbrev pub NotesUser : BTreeMap Form Spots → BTreeMap Form Spots → List ℕ → ℕ → Type 0
-NotesUser before after form place =
+abbrev pub AddsUserPlace : BTreeMap Form Spots → BTreeMap Form Spots → List ℕ → ℕ → Type 0
+AddsUserPlace before after form place =
     (planner user : List (List ℕ)) (m : ℕ) → slice_get user place ≡ Some form
     → IsTable planner m user place before → IsTable planner m user (place + 1) after
 
 -- the row has the places of its form in two lists
-abbrev pub IsRow : List (List ℕ) → List (List ℕ) → Row → Type 0
+abbrev pub IsRow : List (List ℕ) → List (List ℕ) → FormRow → Type 0
 IsRow planner user row =
     StandsAt planner (length planner) row.form row.spots.planner
     × StandsAt user (length user) row.form row.spots.user
 
 -- the rows have the places of each form of two lists, in ASCII order and each once
-pub record AreRows (planner user : List (List ℕ)) (rows : List Row) : Type 0 where
+pub record AreRows (planner user : List (List ℕ)) (rows : List FormRow) : Type 0 where
   pub each : All (IsRow planner user) rows
   pub ordered : AllPairs (λ r s. IsPrintedBefore r.form s.form) rows
   pub complete : (form : List ℕ) → Contains planner form ⊎ Contains user form
-      → (row : Row) × Contains rows row × (row.form ≡ form)
+      → (row : FormRow) × Contains rows row × (row.form ≡ form)
 
 -- the map is laid out as rows
-abbrev pub IsLaidOut : BTreeMap Form Spots → List Row → Type 0
+abbrev pub IsLaidOut : BTreeMap Form Spots → List FormRow → Type 0
 IsLaidOut table rows =
     (planner user : List (List ℕ)) → IsTable planner (length planner) user (length user) table
     → AreRows planner user rows

@@ -15,8 +15,8 @@ use Rattle.feature_diff.specs.declared.difference.Difference.{Difference}
 use Rattle.feature_diff.specs.declared.difference.Difference.TheVariants as told
 use Rattle.feature_diff.specs.declared.facts.FactKind.{FactKind}
 use Rattle.feature_diff.specs.declared.facts.FactKind.TheVariants.{Init, Goal}
-use Rattle.feature_diff.specs.declared.schema_parts.Part.{Part}
-use Rattle.feature_diff.specs.declared.schema_parts.Part.TheVariants.{Pre, Add, Del}
+use Rattle.feature_diff.specs.declared.schema_parts.SchemaPart.{SchemaPart}
+use Rattle.feature_diff.specs.declared.schema_parts.SchemaPart.TheVariants.{Pre, Add, Del}
 use Rattle.feature_diff.specs.declared.schema_parts.ActionPart.{ActionPart}
 
 -- the initial facts or the goal facts
@@ -38,23 +38,23 @@ fact_told Init atom has = told.Init atom has
 fact_told Goal atom has = told.Goal atom has
 
 -- the preconditions, adds or deletes
-abbrev pub part_of : Part → Schema → List SchemaAtom
+abbrev pub part_of : SchemaPart → Schema → List SchemaAtom
 part_of Pre schema = schema.pre
 part_of Add schema = schema.add
 part_of Del schema = schema.del
 
-abbrev pub place_in : Part → ℕ → SchemaAtom → Place
+abbrev pub place_in : SchemaPart → ℕ → SchemaAtom → Place
 place_in Pre action atom = place.Pre action atom
 place_in Add action atom = place.Add action atom
 place_in Del action atom = place.Del action atom
 
-abbrev pub group_in : Part → ℕ → ℕ
+abbrev pub group_in : SchemaPart → ℕ → ℕ
 group_in Pre action = 3 + 5 * action
 group_in Add action = 4 + 5 * action
 group_in Del action = 5 + 5 * action
 
 -- the atom that one model's schema alone has
-abbrev pub told_in : Part → ℕ → SchemaAtom → Bool → Difference
+abbrev pub told_in : SchemaPart → ℕ → SchemaAtom → Bool → Difference
 told_in Pre action atom has = told.Pre action atom has
 told_in Add action atom has = told.Add action atom has
 told_in Del action atom has = told.Del action atom has

@@ -7,7 +7,7 @@ ghost use Rattle.feature_diff.specs.Parts.{GainsGroup, IsGathered};
 
 use crate::Difference;
 use crate::gathered::Gathered;
-use crate::schema_parts::{ActionPart, Part, tell_part};
+use crate::schema_parts::{ActionPart, SchemaPart, tell_part};
 use model_kit::{CostExpr, Model, are_same_terms};
 use mre_base::{Copied, NoMemory};
 use std::alloc::Global;
@@ -102,17 +102,17 @@ fn tell_action(
     tell_knowledge(planner, user, action, gathered)?;
     let pre = ActionPart {
         action,
-        part: Part::Pre,
+        part: SchemaPart::Pre,
     };
     tell_part(alloc, planner, user, pre, gathered)?;
     let add = ActionPart {
         action,
-        part: Part::Add,
+        part: SchemaPart::Add,
     };
     tell_part(alloc, planner, user, add, gathered)?;
     let del = ActionPart {
         action,
-        part: Part::Del,
+        part: SchemaPart::Del,
     };
     tell_part(alloc, planner, user, del, gathered)?;
     tell_cost(alloc, planner, user, action, gathered)

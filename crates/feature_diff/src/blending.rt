@@ -7,7 +7,7 @@ ghost use Rattle.feature_diff.specs.Blending.{AreBlended, IsBlend};
 
 use crate::Difference;
 use crate::facts::FactKind;
-use crate::schema_parts::{ActionPart, Part, atoms_in};
+use crate::schema_parts::{ActionPart, SchemaPart, atoms_in};
 use crate::spots::{ActionKind, Spot, is_told};
 use crate::worths::Worths;
 use model_kit::{GroundAtom, Model, Schema, SchemaAtom};
@@ -96,15 +96,15 @@ fn blend_schema(
 {
     let pre = ActionPart {
         action,
-        part: Part::Pre,
+        part: SchemaPart::Pre,
     };
     let add = ActionPart {
         action,
-        part: Part::Add,
+        part: SchemaPart::Add,
     };
     let del = ActionPart {
         action,
-        part: Part::Del,
+        part: SchemaPart::Del,
     };
     let is_planners = is_told::<ActionKind, u32>(&action, &ActionKind::Cost, differences, told);
     let cost = if is_planners {

@@ -47,7 +47,9 @@ impl Ord for Form {
 impl PartialOrd for Form {
     ghost partial_cmp = { as_partial_cmp (on (λ f. f.text) (slice_cmp nat_cmp)) };
 
-    ghost laws = { partial_order_from_own_ties (Prim.search (comparing, rules)) (Prim.search (comparing, rules)) };
+    ghost laws = { partial_order_from_own_ties
+        (Prim.search (comparing, rules))
+        (Prim.search (comparing, rules)) };
 
     fn partial_cmp(&self, other: &Form) -> Option<Ordering> {
         Some(self.cmp(other))

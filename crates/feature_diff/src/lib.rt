@@ -20,6 +20,6 @@ pub use difference::Difference;
 pub use facts::{FactKind, facts_in};
 pub use joint_models::{PairFault, PairStop};
 pub use pair::{DiffStop, Pair};
-pub use schema_parts::{ActionPart, Part, atoms_in};
+pub use schema_parts::{ActionPart, SchemaPart, atoms_in};
 pub use spots::{ActionKind, Spot, place_at};
 pub use worths::Worths;

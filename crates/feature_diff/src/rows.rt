@@ -2,8 +2,8 @@
 
 ghost use Rattle.std.specs.Prelude.{◌≡◌, IfOk, OnOk};
 ghost use Rattle.std.specs.BTreeMap.{get};
-ghost use Rattle.feature_diff.specs.Rows.{form_cmp, spots_of, NotesPlanner, NotesUser, AreRows};
-ghost use Rattle.feature_diff.specs.Rows.{IsLaidOut};
+ghost use Rattle.feature_diff.specs.Rows.{form_cmp, spots_of, AddsPlannerPlace, AddsUserPlace};
+ghost use Rattle.feature_diff.specs.Rows.{AreRows, IsLaidOut};
 
 use crate::form::Form;
 use mre_base::{List, NoMemory, Text};
@@ -18,14 +18,14 @@ pub(crate) struct Spots {
 }
 
 // A printed form and its places.
-pub(crate) struct Row {
+pub(crate) struct FormRow {
     pub(crate) form: Text,
     pub(crate) spots: Spots,
 }
 
-impl Drop for Row {
+impl Drop for FormRow {
     fn drop(self) {
-        let Row { form: _, spots: _ } = self;
+        let FormRow { form: _, spots: _ } = self;
     }
 }
 
@@ -34,15 +34,15 @@ pub(crate) fn align(
     alloc: Global,
     planner: &List<Text>,
     user: &List<Text>,
-) -> Result<List<Row>, NoMemory>
+) -> Result<List<FormRow>, NoMemory>
     ensures ok { IfOk result (AreRows planner.now user.now) }
 {
     let mut table = BTreeMap::new(alloc);
     for place in 0..planner.len() {
-        note_planner(alloc, &mut table, planner.item(place), place)?;
+        add_planner_place(alloc, &mut table, planner.item(place), place)?;
     }
     for place in 0..user.len() {
-        note_user(alloc, &mut table, user.item(place), place)?;
+        add_user_place(alloc, &mut table, user.item(place), place)?;
     }
     lay_out(alloc, table)
 }
@@ -60,14 +60,14 @@ fn spots_at(table: &BTreeMap<Form, Spots>, form: &Form) -> Spots
     }
 }
 
-// Sets the place of a form in the planner's list.
-fn note_planner(
+// Adds the place of a form in the planner's list.
+fn add_planner_place(
     alloc: Global,
     table: &mut BTreeMap<Form, Spots>,
     form: &Text,
     place: usize,
 ) -> Result<(), NoMemory>
-    ensures ok { OnOk result (NotesPlanner table.old table.new form.now place) }
+    ensures ok { OnOk result (AddsPlannerPlace table.old table.new form.now place) }
 {
     let key = Form {
         text: form.copy(alloc)?,
@@ -80,14 +80,14 @@ fn note_planner(
     Ok(())
 }
 
-// Sets the place of a form in the user's list.
-fn note_user(
+// Adds the place of a form in the user's list.
+fn add_user_place(
     alloc: Global,
     table: &mut BTreeMap<Form, Spots>,
     form: &Text,
     place: usize,
 ) -> Result<(), NoMemory>
-    ensures ok { OnOk result (NotesUser table.old table.new form.now place) }
+    ensures ok { OnOk result (AddsUserPlace table.old table.new form.now place) }
 {
     let key = Form {
         text: form.copy(alloc)?,
@@ -101,12 +101,12 @@ fn note_user(
 }
 
 // The entries of the map in their order.
-fn lay_out(alloc: Global, table: BTreeMap<Form, Spots>) -> Result<List<Row>, NoMemory>
+fn lay_out(alloc: Global, table: BTreeMap<Form, Spots>) -> Result<List<FormRow>, NoMemory>
     ensures ok { IfOk result (IsLaidOut table) }
 {
     let mut rows = List::empty(alloc);
     for (form, spots) in table {
-        rows.push(Row {
+        rows.push(FormRow {
             form: form.text,
             spots,
         })?;

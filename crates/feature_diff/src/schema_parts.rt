@@ -15,7 +15,7 @@ use std::alloc::Global;
 
 /// The lists of atoms of an action schema.
 #[derive(Clone, Copy)]
-pub enum Part {
+pub enum SchemaPart {
     Pre,
     Add,
     Del,
@@ -25,17 +25,17 @@ pub enum Part {
 #[derive(Clone, Copy)]
 pub struct ActionPart {
     pub action: u32,
-    pub part: Part,
+    pub part: SchemaPart,
 }
 
 /// One of the lists.
-pub fn atoms_in(part: Part, schema: &Schema) -> &List<SchemaAtom>
+pub fn atoms_in(part: SchemaPart, schema: &Schema) -> &List<SchemaAtom>
     ensures { result.now ≡ part_of part schema.now }
 {
     match part {
-        Part::Pre => &schema.pre,
-        Part::Add => &schema.add,
-        Part::Del => &schema.del,
+        SchemaPart::Pre => &schema.pre,
+        SchemaPart::Add => &schema.add,
+        SchemaPart::Del => &schema.del,
     }
 }
 
@@ -89,17 +89,17 @@ impl Told<ActionPart> for SchemaAtom {
         let atom = self.copied(alloc)?;
         let action = kind.action;
         Ok(match kind.part {
-            Part::Pre => Difference::Pre {
+            SchemaPart::Pre => Difference::Pre {
                 action,
                 atom,
                 planner_has,
             },
-            Part::Add => Difference::Add {
+            SchemaPart::Add => Difference::Add {
                 action,
                 atom,
                 planner_has,
             },
-            Part::Del => Difference::Del {
+            SchemaPart::Del => Difference::Del {
                 action,
                 atom,
                 planner_has,

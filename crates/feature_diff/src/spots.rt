@@ -11,7 +11,7 @@ ghost use Rattle.feature_diff.specs.Telling.{fact_place, place_in};
 
 use crate::Difference;
 use crate::facts::FactKind;
-use crate::schema_parts::{ActionPart, Part};
+use crate::schema_parts::{ActionPart, SchemaPart};
 use crate::worths::Worths;
 use model_kit::{GroundAtom, SchemaAtom, are_same_terms};
 use mre_base::{Copied, List, Places};
@@ -51,13 +51,13 @@ impl Spot<ActionPart> for SchemaAtom {
 
     fn is_at(&self, kind: &ActionPart, difference: &Difference) -> bool {
         match (kind.part, difference) {
-            (Part::Pre, Difference::Pre { action, atom, .. }) => {
+            (SchemaPart::Pre, Difference::Pre { action, atom, .. }) => {
                 *action == kind.action && is_same_atom(atom, self)
             }
-            (Part::Add, Difference::Add { action, atom, .. }) => {
+            (SchemaPart::Add, Difference::Add { action, atom, .. }) => {
                 *action == kind.action && is_same_atom(atom, self)
             }
-            (Part::Del, Difference::Del { action, atom, .. }) => {
+            (SchemaPart::Del, Difference::Del { action, atom, .. }) => {
                 *action == kind.action && is_same_atom(atom, self)
             }
             _ => false,

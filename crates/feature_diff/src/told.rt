@@ -9,7 +9,7 @@ ghost use Rattle.feature_diff.specs.Rows.{AreRows};
 
 use crate::Difference;
 use crate::gathered::Gathered;
-use crate::rows::{Row, Spots, align};
+use crate::rows::{FormRow, Spots, align};
 use model_kit::Vocabulary;
 use mre_base::{List, NoMemory, Text};
 use std::alloc::Global;
@@ -93,7 +93,7 @@ fn tell_row<K, T: Told<K>>(
     kind: &K,
     planner: &List<T>,
     user: &List<T>,
-    row: &Row,
+    row: &FormRow,
     gathered: &mut Gathered,
 ) -> Result<(), NoMemory>
     requires planner_within { IsWithin row.now.spots.planner planner.now }
@@ -113,7 +113,7 @@ fn tell_rows<K, T: Told<K>>(
     kind: &K,
     planner: &List<T>,
     user: &List<T>,
-    rows: &List<Row>,
+    rows: &List<FormRow>,
     gathered: &mut Gathered,
 ) -> Result<(), NoMemory>
     requires { All (AreWithin planner.now user.now) rows.now }

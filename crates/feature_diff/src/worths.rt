@@ -40,9 +40,11 @@ pub(crate) fn tell_values(
 }
 
 impl Told<Worths> for (u32, List<u32>, u32) {
-    ghost Fits = { λ words value. IsTrue (fits_signature (is_object_of words) words.functions value.0 value.1) };
+    ghost Fits = { λ words value.
+        IsTrue (fits_signature (is_object_of words) words.functions value.0 value.1) };
 
-    ghost form = { λ words value. printed_form (name_of words.functions value.0) (map (object_name words) value.1) };
+    ghost form = { λ words value.
+        printed_form (name_of words.functions value.0) (map (object_name words) value.1) };
 
     ghost alone = { λ kind. value_alone };
 

@@ -1,7 +1,7 @@
 //! The texts of a case, cut out of the input.
 
 use crate::grounding::grounded;
-use crate::telling::{Part, tell};
+use crate::telling::{Detail, tell};
 use mre_base::NoMemory;
 use std::alloc::Global;
 
@@ -27,9 +27,9 @@ impl Cases {
     /// Takes one line, and gives what is to be printed.
     pub fn take(&mut self, alloc: Global, line: &str) -> Result<String, NoMemory> {
         let part = match line {
-            "table" => Part::Whole,
-            "names" => Part::Names,
-            "counts" => Part::Counts,
+            "table" => Detail::Whole,
+            "names" => Detail::Names,
+            "counts" => Detail::Counts,
             _ => {
                 self.keep(alloc, line)?;
                 return Ok(String::new(alloc));

@@ -109,7 +109,7 @@ fn tell_stop(alloc: Global, stop: &GroundStop) -> Result<String, NoMemory> {
 
 /// How much of a table is printed.
 #[derive(Clone, Copy)]
-pub enum Part {
+pub enum Detail {
     /// The numbers of atoms and actions.
     Counts,
     /// Their printed forms too.
@@ -118,16 +118,16 @@ pub enum Part {
     Whole,
 }
 
-fn tell_ground(alloc: Global, ground: &Ground, part: Part) -> Result<String, NoMemory> {
+fn tell_ground(alloc: Global, ground: &Ground, detail: Detail) -> Result<String, NoMemory> {
     let mut told = String::new(alloc);
-    match part {
-        Part::Counts => {
+    match detail {
+        Detail::Counts => {
             let atoms = ground.names.atom_count();
             let actions = ground.names.action_count();
             write!(told, "atoms {atoms}, actions {actions}\n")?;
         }
-        Part::Names => put_names(&mut told, &ground.names)?,
-        Part::Whole => {
+        Detail::Names => put_names(&mut told, &ground.names)?,
+        Detail::Whole => {
             put_names(&mut told, &ground.names)?;
             put_table(&mut told, &ground.table)?;
         }
@@ -139,10 +139,10 @@ fn tell_ground(alloc: Global, ground: &Ground, part: Part) -> Result<String, NoM
 pub fn tell(
     alloc: Global,
     grounded: &Option<Result<Ground, GroundStop>>,
-    part: Part,
+    detail: Detail,
 ) -> Result<String, NoMemory> {
     match grounded {
-        Some(Ok(ground)) => tell_ground(alloc, ground, part),
+        Some(Ok(ground)) => tell_ground(alloc, ground, detail),
         Some(Err(stop)) => tell_stop(alloc, stop),
         None => Ok(String::from_str(alloc, "no pair\n")?),
     }

@@ -17,7 +17,7 @@ use Rattle.reach_kit.specs.declared.world.ReachStop.TheVariants as stops
 use Rattle.reach_kit.specs.Relaxed as rules
 use Rattle.feature_diff.specs.declared.difference.Difference.{Difference}
 use Rattle.feature_diff.specs.declared.facts.FactKind.TheVariants.{Init}
-use Rattle.feature_diff.specs.declared.schema_parts.Part.TheVariants.{Add}
+use Rattle.feature_diff.specs.declared.schema_parts.SchemaPart.TheVariants.{Add}
 use Rattle.named_tables.specs.Models.{Models}
 use Rattle.named_tables.specs.Numbered.{ListsReachable}
 use Rattle.named_tables.specs.Reachable as named
@@ -32,7 +32,7 @@ use Rattle.ground_core.specs.declared.stop.GroundStop.{GroundStop}
 use Rattle.ground_core.specs.Stops.{stop_of, Exceeds}
 use Rattle.ground_core.specs.Grounds.{IsFull}
 
--- the same things in another order are those that may be reached
+-- reordered lists of the reachable things are lists of the reachable things
 pub listed_again : (models : Models) (atoms same_atoms : List GroundAtom) (actions same_actions : List GroundAction) → ListsReachable models atoms actions → ((atom : GroundAtom) → Contains same_atoms atom ↔ Contains atoms atom)
     → ((action : GroundAction) → Contains same_actions action ↔ Contains actions action) → ListsReachable models same_atoms same_actions
 listed_again models atoms same_atoms actions same_actions lists atoms_same actions_same = record {
@@ -135,7 +135,7 @@ module _ (planner user : Model) (differences : List Difference) where
   )
   exceeded world are limits atoms_are actions_are stops.NoMemory is = tt
 
--- a stop that is passed on in other words
+-- a stop of reachability, reported as a stop of grounding
 pub told_on : (P : GroundStop → Type 0) (stop : ReachStop) {T : Type 0} (result : Result T GroundStop) → IsErrAnd result (λ made. made ≡ stop_of stop) → P (stop_of stop) → IfErr result P
 told_on P stop (Ok _) is told = tt
 told_on P stop (Err made) is told = subst P (sym is) told

@@ -55,7 +55,7 @@ nowhere names name ascend k parted (j, lt, is) =
     no_greater : Greater ≡ Equal → ⊥
     no_greater e = absurd (cc)
 
--- the same of a list that is searched in another's place
+-- likewise in a list that equals the searched one
 module _ (searched names : List (List ℕ)) (same : searched ≡ names) (name : List ℕ) where
   pub found_there : (k : ℕ) → k < length searched → HoldsAt (λ y. text_cmp y name ≡ Equal) searched k → slice_get names k ≡ Some name
   found_there k lt holds = subst (λ list. slice_get list k ≡ Some name) same (there searched name k lt holds)

@@ -29,7 +29,7 @@ use Rattle.mre_base.proofs.Options.{same_some}
 abbrev pub text_cmp : List ℕ → List ℕ → Ordering
 text_cmp = slice_cmp nat_cmp
 
--- texts that tie are one
+-- texts that tie are equal
 pub tie_same : (key name : List ℕ) → is_eq (text_cmp key name) ≡ true → key ≡ name
 tie_same key name tie = (bytes_eq-Decides key name).0 (sym (is_eq-slice_cmp key name) ∙ tie)
 
@@ -136,12 +136,12 @@ module _ {X : Type 0} (form : X → List ℕ) where
           let at = place_from_lookup (is_at (text_cmp (form x))) index.entries x (is.all x there) in
           subst (λ list. Contains list x) (sym laid.things) (map-contains (λ (e : List ℕ × X). e.1) index.entries (at.1, x) (item_contained index.entries at.0 (at.1, x) at.2))
 
--- an insertion makes at most one entry more
+-- an insertion adds at most one entry
 pub one_more : (new old : ℕ) (was : Bool) → new ≡ old + (if was then 0 else 1) → new ≤ old + 1
 one_more new old true is = omega (arith, is)
 one_more new old false is = omega (arith, is)
 
--- the first things, as many as there are, are all
+-- the first things, up to the length of the list, are all things
 pub index_whole : {X : Type 0} (form : X → List ℕ) (things : List X) (i : ℕ) (index : BTreeMap (List ℕ) X) → i ≡ length things → IsIndexOf form i (Contains (take i things)) index → IsIndex form things index
 index_whole form things i index is before =
     subst (λ list. IsIndexOf form (length things) (Contains list) index) (take_all (length things) things (omega arith)) (subst (λ n. IsIndexOf form n (Contains (take n things)) index) is before)

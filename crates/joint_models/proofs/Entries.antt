@@ -13,7 +13,7 @@ use Rattle.model_kit.specs.declared.vocabulary.Signature.{Signature}
 use Rattle.model_kit.specs.Same.{same_numbers}
 use Rattle.model_kit.specs.Pairs.{names, number_of, is_named}
 use Rattle.model_kit.proofs.Alike.{same_numbers-decides}
-use Rattle.mre_base.proofs.Loops.{take_item, drop_item}
+use Rattle.mre_base.proofs.Loops.{drop_item}
 use Rattle.joint_models.specs.Listed.{entry_named, ArePlaces}
 
 -- ---- one entry more in front
@@ -172,10 +172,6 @@ places_done ss i places start before name =
 
 pub none_past : (i : ℕ) (ss : List Signature) (name : List ℕ) → i ≡ length ss → place_from i (drop i ss) name ≡ None
 none_past i ss name end = ap (λ rest. place_from i rest name) (drop_all i ss (omega arith))
-
--- a copy of a list, one item on
-pub take_pushed : {X : Type 0} (xs : List X) (i : ℕ) (x y : X) → slice_get xs i ≡ Some x → (old new : List X) → old ≡ take i xs → new ≡ old ++ y ∷ [] → y ≡ x → new ≡ take (i + 1) xs
-take_pushed xs i x y at old new before pushed is = pushed ∙ (λ j. before j ++ is j ∷ []) ∙ sym (take_item xs i x at)
 
 -- ---- whether a name is there
 

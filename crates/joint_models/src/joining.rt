@@ -8,7 +8,7 @@ ghost use Rattle.joint_models.specs.Lists.{AreListsOf};
 use crate::PairStop;
 use crate::agreeing::agree;
 use crate::lists::Lists;
-use crate::models::{Part, model_in};
+use crate::models::{NumberedModel, model_in};
 use crate::numbers::Numbers;
 use crate::words::joint_words;
 use model_kit::Model;
@@ -78,12 +78,12 @@ fn joined(
     let joint_lists = Lists::of(alloc, &words)?;
     let planner_numbers = Numbers::between(alloc, planner_lists, &joint_lists)?;
     let user_numbers = Numbers::between(alloc, user_lists, &joint_lists)?;
-    let own = Part {
+    let own = NumberedModel {
         model: planner,
         lists: planner_lists,
         numbers: &planner_numbers,
     };
-    let other = Part {
+    let other = NumberedModel {
         model: user,
         lists: user_lists,
         numbers: &user_numbers,

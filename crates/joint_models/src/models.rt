@@ -15,7 +15,7 @@ use std::alloc::Global;
 
 /// A model, what its vocabulary lists, and the new numbers of its words.
 #[derive(Clone, Copy)]
-pub(crate) struct Part<'a> {
+pub(crate) struct NumberedModel<'a> {
     pub(crate) model: &'a Model,
     pub(crate) lists: &'a Lists,
     pub(crate) numbers: &'a Numbers,
@@ -25,8 +25,8 @@ pub(crate) struct Part<'a> {
 pub(crate) fn model_in(
     alloc: Global,
     words: Vocabulary,
-    own: Part<'_>,
-    other: Part<'_>,
+    own: NumberedModel<'_>,
+    other: NumberedModel<'_>,
 ) -> Result<Model, NoMemory>
     requires own_is { IsPartOf words own.model.now own.lists.now own.numbers.now }
     requires other_is { IsPartOf words other.model.now other.lists.now other.numbers.now }
@@ -54,8 +54,8 @@ pub(crate) fn model_in(
 fn schemas_for(
     alloc: Global,
     actions: &List<Signature>,
-    own: Part<'_>,
-    other: Part<'_>,
+    own: NumberedModel<'_>,
+    other: NumberedModel<'_>,
 ) -> Result<List<Schema>, NoMemory>
     requires own_are { own.lists.now.actions.entries ≡ own.model.now.words.actions }
     requires other_are { other.lists.now.actions.entries ≡ other.model.now.words.actions }
@@ -75,8 +75,8 @@ fn schemas_for(
 fn schema_for(
     alloc: Global,
     name: &Text,
-    own: Part<'_>,
-    other: Part<'_>,
+    own: NumberedModel<'_>,
+    other: NumberedModel<'_>,
 ) -> Result<Schema, NoMemory>
     requires own_are { own.lists.now.actions.entries ≡ own.model.now.words.actions }
     requires other_are { other.lists.now.actions.entries ≡ other.model.now.words.actions }

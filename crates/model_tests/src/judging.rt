@@ -84,10 +84,12 @@ fn assert_ways(
     rows: &str,
 ) -> Result<(), Fail> {
     let domain = format!(in alloc;
-        "(define (domain ways) (:predicates (p) (q) (g)) (:functions (total-cost))\n(:action walk {walk})\n(:action jump {jump}))"
+        "(define (domain ways) (:predicates (p) (q) (g)) (:functions (total-cost))\n\
+        (:action walk {walk})\n(:action jump {jump}))"
     )?;
     let problem = format!(in alloc;
-        "(define (problem g) (:domain ways) (:init (p)) (:goal {goal}) (:metric minimize (total-cost)))"
+        "(define (problem g) (:domain ways) (:init (p)) (:goal {goal}) \
+        (:metric minimize (total-cost)))"
     )?;
     assert_judgements(rt, alloc, domain.as_str(), problem.as_str(), rows)
 }
@@ -138,20 +140,24 @@ fn steps_cost_what_their_roads_cost(rt: HostRuntime) -> Result<(), Fail> {
 
 #[test]
 fn a_parcel_is_delivered(rt: HostRuntime) -> Result<(), Fail> {
-    let domain =
-        "(define (domain delivery) (:types truck parcel - thing depot shop - place) (:constants hub - depot)\n\
+    let domain = "(define (domain delivery) (:types truck parcel - thing depot shop - place) \
+        (:constants hub - depot)\n\
         (:predicates (at ?x - thing ?p - place) (in ?k - parcel ?t - truck) (road ?a ?b - place))\n\
         (:functions (total-cost) - number (road-length ?a ?b - place) - number)\n\
-        (:action drive :parameters (?t - truck ?a ?b - place) :precondition (and (at ?t ?a) (road ?a ?b))\n\
+        (:action drive :parameters (?t - truck ?a ?b - place) \
+        :precondition (and (at ?t ?a) (road ?a ?b))\n\
          :effect (and (not (at ?t ?a)) (at ?t ?b) (increase (total-cost) (road-length ?a ?b))))\n\
-        (:action load :parameters (?k - parcel ?t - truck ?p - place) :precondition (and (at ?k ?p) (at ?t ?p))\n\
+        (:action load :parameters (?k - parcel ?t - truck ?p - place) \
+        :precondition (and (at ?k ?p) (at ?t ?p))\n\
          :effect (and (not (at ?k ?p)) (in ?k ?t) (increase (total-cost) 1)))\n\
-        (:action unload :parameters (?k - parcel ?t - truck ?p - place) :precondition (and (in ?k ?t) (at ?t ?p))\n\
+        (:action unload :parameters (?k - parcel ?t - truck ?p - place) \
+        :precondition (and (in ?k ?t) (at ?t ?p))\n\
          :effect (and (not (in ?k ?t)) (at ?k ?p) (increase (total-cost) 1))))";
-    let problem =
-        "(define (problem monday) (:domain delivery) (:objects t1 - truck k1 - parcel mill north - shop)\n\
+    let problem = "(define (problem monday) (:domain delivery) \
+        (:objects t1 - truck k1 - parcel mill north - shop)\n\
         (:init (at t1 hub) (at k1 hub) (road hub mill) (road mill hub) (road hub north)\n\
-         (= (road-length hub mill) 5.0) (= (road-length mill hub) 5) (= (road-length hub north) 1) (= (road-length north mill) 1))\n\
+         (= (road-length hub mill) 5.0) (= (road-length mill hub) 5) \
+        (= (road-length hub north) 1) (= (road-length north mill) 1))\n\
         (:goal (at k1 mill)) (:metric minimize (total-cost)))";
     let rows = "(load k1 t1 hub)|(drive t1 hub mill)|(unload k1 t1 mill) => valid 7\n\
         (drive t1 hub north) => ends without (at k1 mill)\n\

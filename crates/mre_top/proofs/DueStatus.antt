@@ -22,7 +22,7 @@ use Rattle.request_answers.proofs.Ending.{due_ends, answer_ends}
 use Rattle.mre_top.specs.Reads.{AreRead, IsTooLong, IsFirstTooLong, name_at, file_limit}
 use Rattle.mre_top.specs.Refusals.{status_of}
 use Rattle.mre_top.specs.Causes.{IsCause, IsDueOf, AreAnswered, EndWith}
-use Rattle.mre_top.specs.Outcomes.{IsUnlessEarlier}
+use Rattle.mre_top.specs.Outcomes.{IsUnlessEarlier, IsUnlessCut}
 
 same_under : (xs ys : List (List ℕ)) → map Some xs ≡ map Some ys → xs ≡ ys
 same_under [] [] e = refl
@@ -35,7 +35,7 @@ same_under (x ∷ xs) (y ∷ ys) e =
     let rest = same_under xs ys behind in
     λ i. here i ∷ rest i
 
--- what a shelf that tells holds under the names is one list of contents
+-- known files hold one list of contents under the names
 contents_once : (files : Files) (names one two : List (List ℕ)) → AreRead (Some files) names one → AreRead (Some files) names two → one ≡ two
 contents_once files names one two first second = same_under one two (sym first.whole ∙ second.whole)
 
@@ -53,10 +53,6 @@ not_too_long files names contents file read within long =
     let short : length bytes ≤ file_limit = All_item contents file bytes item (λ b. length b ≤ file_limit) read.within in
     let longer : file_limit < length bytes = subst (λ o. IsSomeAnd o (λ b. file_limit < length b)) is long in
     omega arith
-
--- the status is the due one, unless a read failed or memory ran out, or a write failed where 0 is due
-abbrev pub IsUnlessCut : ℕ → ℕ → Type 0
-IsUnlessCut status due = IsUnlessEarlier status due ⊎ ((status ≡ 4) × (due ≡ 0))
 
 module _ (asks : Option Request) (files : Files) (status : ℕ) where
   request_once : (one two : Request) → asks ≡ Some one → asks ≡ Some two → one ≡ two

@@ -1,9 +1,11 @@
 pub mod Answered
 pub mod Calls
 pub mod DueStatus
+pub mod Ended
 pub mod Explained
 pub mod Lines
 pub mod Names
+pub mod Promised
 pub mod Served
 pub mod SomeLines
 pub mod Statuses

@@ -1,5 +1,5 @@
--- What stands behind each refusal, and behind an answer: in the request, in what the shelf holds,
--- and in the contents of the files.
+-- The cause of each refusal and of an answer: in the request, in what the shelf holds, and in the
+-- contents of the files.
 use Rattle.std.specs.Prelude.{ℕ, ◌≡◌, ◌≢◌, List, [], Option, None, Some}
 use Rattle.std.specs.Ordering.{nat_cmp}
 use Rattle.std.specs.FinSet as set
@@ -18,9 +18,10 @@ use Rattle.mre_top.specs.declared.refusal.Refusal.TheVariants.{Usage, ReadFailed
 use Rattle.mre_top.specs.declared.refusal.Refusal.TheVariants.{TooLong, Stopped, NoMemory}
 use Rattle.mre_top.specs.Reads.{AreRead, StopsReading, reads}
 
--- ---- the contents of the files that a request names, or none where there is no request
+-- ---- the contents of the files that the request names
 
--- the files can all be read, and their contents have this cause, which isn't want of memory
+-- the files can all be read, and their contents are the cause of this stop, which isn't that memory
+-- ran out
 pub record IsDueOf (asks : Option Request) (held : Option Files) (stop : AnswerStop) : Type 0 where
   pub request : Request
   pub asked : asks ≡ Some request
@@ -29,8 +30,8 @@ pub record IsDueOf (asks : Option Request) (held : Option Files) (stop : AnswerS
   pub due : IsDue request contents stop
   pub some : stop ≢ Exhausted
 
--- the files can all be read, and this is printed about their contents, which tells the differences
--- in the set
+-- the files can all be read, and this text, which tells the differences in the set, is printed
+-- about their contents
 pub record AreAnswered (asks : Option Request) (held : Option Files) (told : set.FinSet nat_cmp)
     (text : List ℕ) : Type 0 where
   pub request : Request
@@ -47,15 +48,15 @@ pub record EndWith (asks : Option Request) (held : Option Files) (status : ℕ) 
   pub read : AreRead held (names_in asks) contents
   pub ends : EndsAt request contents status
 
--- something is printed about the files
+-- there is something to print about the files
 abbrev pub HaveAnswer : Option Request → Option Files → Type 0
 HaveAnswer asks held =
     (told : set.FinSet nat_cmp) × (text : List ℕ) × AreAnswered asks held told text
 
 -- ---- refusals
 
--- why a call with this request, or with none, ended so, where the shelf held this, and what it
--- asked of the shelf until then
+-- the cause of a refusal, by the request and by what the shelf holds, and the calls of the shelf
+-- until then
 abbrev pub IsCause : Option Request → Option Files → Refusal → List ShelfCall → Type 0
 IsCause asks held Usage calls = (asks ≡ None) × (calls ≡ [])
 IsCause asks held (ReadFailed file) calls =
@@ -65,7 +66,7 @@ IsCause asks held NoMemory calls = StopsReading (names_in asks) held NoMemory ca
 IsCause asks held WriteFailed calls = HaveAnswer asks held × (calls ≡ reads (names_in asks))
 IsCause asks held (Stopped stop) calls = IsDueOf asks held stop × (calls ≡ reads (names_in asks))
 
--- ---- the way from the contents to an answer
+-- ---- from the contents to an answer
 
 -- the contents are the cause, or memory ran out
 abbrev pub IsOfContents : Request → List (List ℕ) → Refusal → Type 0
@@ -73,7 +74,7 @@ IsOfContents request contents (Stopped stop) = IsDue request contents stop × (s
 IsOfContents request contents NoMemory = Unit {0}
 IsOfContents request contents _ = ⊥
 
--- such a refusal that is about a file is about one of so many
+-- if the refusal is about a file, the file's place is below this count
 abbrev pub IsOfFileCount : ℕ → Refusal → Type 0
 IsOfFileCount count (Stopped stop) = IsOfFile count stop
 IsOfFileCount count _ = Unit {0}

@@ -1,7 +1,11 @@
+pub mod Calls
+pub mod CarriedOut
 pub mod Causes
 pub mod Endings
-pub mod Explains
+pub mod Exits
+pub mod Headline
 pub mod Outcomes
+pub mod Promise
 pub mod Reads
 pub mod Refusals
-pub mod Telling
+pub mod Reporting

@@ -1,4 +1,4 @@
--- Why a call isn't carried out: the status, and the lines that tell it.
+-- The status and the lines of each refusal.
 use Rattle.std.specs.Prelude.{◌<◌, ℕ, List, [], ◌∷◌, ◌++◌, length, codes}
 use Rattle.mre_top.specs.declared.refusal.Refusal.{Refusal}
 use Rattle.mre_top.specs.declared.refusal.Refusal.TheVariants.{Usage, ReadFailed, WriteFailed}
@@ -7,6 +7,7 @@ use Rattle.request_answers.specs.Lines.{line, name_at}
 use Rattle.request_answers.specs.Lines.{status_of as stop_status, lines_of as stop_lines}
 use Rattle.request_answers.specs.Lines.{IsOfFile as IsStopOfFile}
 
+-- the status
 abbrev pub status_of : Refusal → ℕ
 status_of Usage = 2
 status_of (ReadFailed file) = 3
@@ -15,11 +16,11 @@ status_of (TooLong file) = 7
 status_of (Stopped stop) = stop_status stop
 status_of NoMemory = 9
 
--- the line that tells want of memory
+-- the line of status 9
 abbrev pub memory_line : List ℕ
 memory_line = line (codes "mre: out of memory")
 
--- the lines that tell a refusal, where the files have these names
+-- the lines of a refusal, where the files have these names
 abbrev pub lines_of : List (List ℕ) → Refusal → List (List ℕ)
 lines_of names Usage =
     line (codes "mre: usage: explain, check, diff, patch, plan-patch or gen") ∷ []
@@ -31,14 +32,9 @@ lines_of names (TooLong file) =
 lines_of names (Stopped stop) = stop_lines names stop
 lines_of names NoMemory = memory_line ∷ []
 
--- a refusal that is about a file is about one of these
+-- if the refusal is about a file, it is one of these
 abbrev pub IsOfFile : List (List ℕ) → Refusal → Type 0
 IsOfFile names (ReadFailed file) = file < length names
 IsOfFile names (TooLong file) = file < length names
 IsOfFile names (Stopped stop) = IsStopOfFile (length names) stop
 IsOfFile names _ = Unit {0}
-
--- the refusal is that the sink of answers failed at a write
-abbrev pub IsWriteFailed : Refusal → Type 0
-IsWriteFailed WriteFailed = Unit {0}
-IsWriteFailed _ = ⊥

@@ -1,3 +1,4 @@
+//! Reading the files of a request.
 ghost use Rattle.std.specs.Prelude.{◌≡◌, ◌<◌, ◌≤◌, length, map, OnOk, IfOk, IfErr};
 ghost use Rattle.mre_outside.specs.Failures.{Rose};
 ghost use Rattle.mre_top.specs.Reads.{AreRead, Stops, IsReadFailed, IsMissingWhereFailed};
@@ -8,10 +9,10 @@ use mre_base::{List, Text};
 use mre_outside::{Shelf, ShelfStop};
 use std::alloc::Global;
 
-/// The bytes that a file may have: a domain, a problem, a plan.
+/// The most bytes that a file may have: a domain, a problem, a plan.
 pub const FILE_LIMIT: u32 = 4_194_304;
 
-/// The contents of the files, each read whole, one after another.
+/// The contents of the files, each read whole, in order.
 pub fn read_files<H: Shelf>(
     alloc: Global,
     shelf: &mut H,
@@ -45,7 +46,7 @@ pub fn read_files<H: Shelf>(
     Ok(contents)
 }
 
-// One of the files.
+// The content of one file.
 fn read_file<H: Shelf>(shelf: &mut H, files: &List<Text>, file: usize) -> Result<Vec<u8>, Refusal>
     requires { file < length files.now }
     ensures held { H.held shelf.new ≡ H.held shelf.old }

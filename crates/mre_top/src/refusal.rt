@@ -1,3 +1,4 @@
+//! Why a call isn't carried out, with its status and its lines.
 ghost use Rattle.std.specs.Prelude.{◌≡◌, ◌<◌, [], ◌∷◌, length, IfOk};
 ghost use Rattle.mre_top.specs.Refusals.{status_of, lines_of, IsOfFile};
 ghost use Rattle.request_answers.specs.Lines.{name_at};
@@ -14,9 +15,9 @@ const USAGE: &str = "mre: usage: explain, check, diff, patch, plan-patch or gen\
 pub enum Refusal {
     /// The words make no request.
     Usage,
-    /// The shelf failed at the file's reading.
+    /// Reading the file failed.
     ReadFailed { file: usize },
-    /// The sink of answers failed.
+    /// Writing the answer failed.
     WriteFailed,
     /// The file has more bytes than its limit.
     TooLong { file: usize },
@@ -41,7 +42,7 @@ impl Refusal {
         }
     }
 
-    /// The lines that tell it, each with its line feed.
+    /// Its lines, each with its line feed.
     pub fn lines(&self, alloc: Global, files: &List<Text>) -> Result<List<Text>, NoMemory>
         requires { IsOfFile files.now self.now }
         ensures ok { IfOk result (λ lines. lines ≡ lines_of files.now self.now) }
@@ -65,7 +66,7 @@ impl Refusal {
     }
 }
 
-// The list of one text.
+// A list of one text.
 fn one_line(alloc: Global, text: &str) -> Result<List<Text>, NoMemory>
     ensures ok { IfOk result (λ lines. lines ≡ text.now ∷ []) }
 {

@@ -1,35 +1,24 @@
-ghost use Rattle.std.specs.Prelude.{ℕ, ◌≡◌, ◌≢◌, ◌⊎◌, ◌↔◌, ◌≤◌, [], length, map, All};
-ghost use Rattle.std.specs.Prelude.{Some, None, IsSome, IsNone, IfOk, IfErr, IsTrue};
-ghost use Rattle.std.specs.Prelude.{List as ListOf};
-ghost use Rattle.std.specs.String.{string_bytes};
+//! The top call: the request of the words, carried out or refused.
+ghost use Rattle.std.specs.Prelude.{◌≡◌, ◌≤◌, [], length, map, All, Some, IsNone, IfOk, IfErr};
+ghost use Rattle.std.specs.List.{concat};
 ghost use Rattle.mre_outside.specs.Failures.{Rose};
-ghost use Rattle.mre_base.specs.declared.kind.Kind.{Kind as AnyKind};
-ghost use Rattle.mre_words.specs.Requests.{requested, names_in, files_of, count_of};
-ghost use Rattle.mre_words.specs.declared.request.Request.TheVariants.{Explain};
-ghost use Rattle.joint_models.specs.declared.stop.PairFault.{PairFault};
-ghost use Rattle.request_answers.specs.declared.stop.PlanFault.{PlanFault};
-ghost use Rattle.request_answers.specs.declared.stop.AnswerStop.{AnswerStop};
-ghost use Rattle.request_answers.specs.declared.stop.AnswerStop.TheVariants.{Disagree, NotValid};
-ghost use Rattle.request_answers.specs.declared.stop.AnswerStop.TheVariants.{NotCheapest};
+ghost use Rattle.mre_words.specs.Requests.{files_of, count_of};
+ghost use Rattle.request_answers.specs.Lines.{IsLine};
 ghost use Rattle.request_answers.specs.Outputs.{AsksMce, IsAnswer};
 ghost use Rattle.request_answers.specs.Texts.{AreShort};
-ghost use Rattle.request_answers.specs.Lines.{IsLine};
-ghost use Rattle.std.specs.List.{concat};
-ghost use Rattle.mre_top.specs.declared.refusal.Refusal.{Refusal};
-ghost use Rattle.mre_top.specs.declared.refusal.Refusal.TheVariants.{ReadFailed, Stopped};
-ghost use Rattle.mre_top.specs.Causes.{IsDueOf, EndWith, IsOfContents, IsOfFileCount};
-ghost use Rattle.mre_top.specs.Endings.{IsRefused, IsCutShort, IsCutByFault, IsCutAtLine, Leaves};
-ghost use Rattle.mre_top.specs.Explains.{IsCarriedOut, Explains, asks_to_explain, answer_in};
-ghost use Rattle.mre_top.specs.Outcomes.{EndsBy, IsPastLimit, IsOfText, IsUnlessEarlier};
-ghost use Rattle.mre_top.specs.Outcomes.{AsksInOrder, AsksUpTo};
-ghost use Rattle.mre_top.specs.Reads.{IsReadFailed, IsFirstTooLong, LacksOne, IsMissing};
-ghost use Rattle.mre_top.specs.Reads.{IsMissingWhereFailed, name_at};
-ghost use Rattle.mre_top.specs.Refusals.{status_of, IsOfFile, IsWriteFailed};
-ghost use Rattle.mre_top.specs.Telling.{IsTold};
+ghost use Rattle.mre_top.specs.Calls.{call_of, asked_by, shelf_change, sink_change};
+ghost use Rattle.mre_top.specs.CarriedOut.{IsCarriedOut, answer_in};
+ghost use Rattle.mre_top.specs.Causes.{IsOfContents, IsOfFileCount};
+ghost use Rattle.mre_top.specs.Endings.{IsRefused, Leaves};
+ghost use Rattle.mre_top.specs.Headline.{Headline};
+ghost use Rattle.mre_top.specs.Promise.{OnSuccess, OnRefusal, OnContents, OnTraces, Stays, Ended};
+ghost use Rattle.mre_top.specs.Reads.{IsReadFailed, IsMissingWhereFailed};
+ghost use Rattle.mre_top.specs.Refusals.{IsOfFile};
+ghost use Rattle.mre_top.specs.Reporting.{IsReported};
 
 use crate::Refusal;
 use crate::reading::read_files;
-use crate::telling::tell;
+use crate::reporting::report;
 use crate::writing::write_lines;
 use mre_base::{Kind, List, NodeLog, Places, Text};
 use mre_outside::{Shelf, Sink, SinkStop};
@@ -37,10 +26,10 @@ use mre_words::{Request, WordsStop, read_words};
 use request_answers::{AnswerStop, Made, answer_texts};
 use std::alloc::Global;
 
-/// How many nodes a search may log where the words give no number.
+/// The most nodes that a search logs if the words give no number.
 pub const NODE_LIMIT: u32 = 200_000;
 
-/// The answer that is printed: the kind of explanation and the told differences.
+/// A printed explanation: its kind and the told differences.
 #[derive(Debug, Drop)]
 pub struct Answer {
     pub kind: Kind,
@@ -49,11 +38,11 @@ pub struct Answer {
 
 /// How a call ended.
 pub struct Outcome {
-    /// What the program ends with.
+    /// The status with which the program ends.
     pub status: u8,
-    /// The explanation that was printed; the other requests have none.
+    /// The explanation that was printed, if one was.
     pub answer: Option<Answer>,
-    /// The nodes of this call's searches, of which there are none yet.
+    /// The nodes of this call's searches. No search logs any yet.
     pub log: NodeLog,
 }
 
@@ -68,12 +57,10 @@ impl Drop for Outcome {
 }
 
 /// Does everything that the program does: takes its words, the shelf that holds the files, and two
-/// sinks, one
-/// for answers and one for refusals. An explanation of models with parameters or cost functions,
-/// with more than 64 predicates or
-/// actions, or with 17 to 256 differences can't be searched for yet: where nothing else is wrong
-/// with its files and the plan is valid,
-/// it ends with status 5.
+/// sinks, one for answers and one for refusals. An explanation of models with parameters or cost
+/// functions, with more than 64 predicates or actions, or with 17 to 256 differences can't be
+/// searched for yet: if nothing else is wrong with the files and the plan is valid, the call ends
+/// with status 5.
 pub fn explain_top<H: Shelf, S: Sink, E: Sink>(
     alloc: Global,
     words: &[String],
@@ -81,118 +68,29 @@ pub fn explain_top<H: Shelf, S: Sink, E: Sink>(
     out: &mut S,
     faults: &mut E,
 ) -> Outcome
-    // Status 0: what the words ask for was printed. An explanation is the MCE of what the files
-    // say.
-    ensures carried_out { result.status ≡ 0
-        → IsCarriedOut (requested (map string_bytes words.now)) (H.held shelf.old)
-        (H.asked shelf.old) (H.asked shelf.new) (S.written out.old) (S.written out.new) result.answer }
-    ensures explained { result.status ≡ 0 → (kind : AnyKind) (names : ListOf (ListOf ℕ))
-        → requested (map string_bytes words.now) ≡ Some (Explain kind names)
-        → (answer : Answer) × (result.answer ≡ Some answer)
-        × Explains kind names (H.held shelf.old)
-        (H.asked shelf.old) (H.asked shelf.new) (S.written out.old) (S.written out.new) answer }
-    ensures silent { result.status ≡ 0 → faults.new ≡ faults.old }
-    ensures answer { IsSome result.answer
-        ↔ ((result.status ≡ 0) × IsTrue (asks_to_explain (requested
-        (map string_bytes words.now)))) }
-
-    // Every other status: why it refused, what it asked of the shelf until then, what it left on
-    // `out`, and what
-    // it told on `faults`.
-    ensures refused { result.status ≢ 0 → (refusal : Refusal)
-        × IsRefused (requested (map string_bytes words.now)) (H.held shelf.old) (H.asked shelf.old)
-        (H.asked shelf.new) refusal
-        × Leaves S.written S.failures S.is_sound (requested (map string_bytes words.now))
-        (H.held shelf.old) out.old out.new refusal
-        × IsTold (E.is_sound faults.old) (names_in (requested (map string_bytes words.now))) refusal
-        result.status
-        (E.written faults.old) (E.written faults.new) (E.failures faults.old) (E.failures faults.new)
-        × (H.is_sound shelf.old
-        → IsMissingWhereFailed (H.held shelf.old)
-        (names_in (requested (map string_bytes words.now))) refusal) }
-
-    // Each status by itself.
-    ensures usage { result.status ≡ 2 → requested (map string_bytes words.now) ≡ None }
-    ensures no_request { requested (map string_bytes words.now) ≡ None
-        → (result.status ≡ 2) ⊎ (result.status ≡ 9) }
-    ensures read_failed { result.status ≡ 3 → Rose (H.failures shelf.old) (H.failures shelf.new) }
-    ensures write_failed { result.status ≡ 4 → Rose (S.failures out.old) (S.failures out.new) }
-    ensures cut_short { result.status ≡ 4 → IsCutShort (requested (map string_bytes words.now))
-        (H.held shelf.old) (S.written out.old) (S.written out.new) }
-    ensures misread { result.status ≡ 5 → (stop : AnswerStop) × IsOfText stop
-        × EndsBy (E.is_sound faults.old) (requested (map string_bytes words.now)) (H.held shelf.old)
-        (E.written faults.old) (E.written faults.new)
-        (E.failures faults.old) (E.failures faults.new) (Stopped stop) }
-    ensures disagree { result.status ≡ 6 → (fault : PairFault)
-        × EndsBy (E.is_sound faults.old) (requested (map string_bytes words.now)) (H.held shelf.old)
-        (E.written faults.old) (E.written faults.new)
-        (E.failures faults.old) (E.failures faults.new) (Stopped (Disagree fault)) }
-    ensures past_limit { result.status ≡ 7 → (refusal : Refusal) × IsPastLimit refusal
-        × EndsBy (E.is_sound faults.old) (requested (map string_bytes words.now)) (H.held shelf.old)
-        (E.written faults.old) (E.written faults.new)
-        (E.failures faults.old) (E.failures faults.new) refusal }
-    ensures not_valid { result.status ≡ 10 → (fault : PlanFault)
-        × EndsBy (E.is_sound faults.old) (requested (map string_bytes words.now)) (H.held shelf.old)
-        (E.written faults.old) (E.written faults.new)
-        (E.failures faults.old) (E.failures faults.new) (Stopped (NotValid fault)) }
-    ensures not_cheapest { result.status ≡ 11 → (cost other : ℕ) × (steps : ListOf (ListOf ℕ))
-        × EndsBy (E.is_sound faults.old) (requested (map string_bytes words.now)) (H.held shelf.old)
-        (E.written faults.old) (E.written faults.new)
-        (E.failures faults.old) (E.failures faults.new) (Stopped (NotCheapest cost other steps)) }
-
-    // The other way, where the shelf tells: what the files say settles the status, but for a failed
-    // read and want
-    // of memory.
-    ensures due { IsSome (H.held shelf.old) → (stop : AnswerStop)
-        → IsDueOf (requested (map string_bytes words.now)) (H.held shelf.old) stop
-        → IsUnlessEarlier result.status (status_of (Stopped stop)) }
-    ensures too_long { IsSome (requested (map string_bytes words.now)) → IsSome (H.held shelf.old)
-        → IsFirstTooLong (H.held shelf.old) (names_in (requested (map string_bytes words.now)))
-        → IsUnlessEarlier result.status 7 }
-    ensures complete { IsSome (H.held shelf.old)
-        → EndWith (requested (map string_bytes words.now)) (H.held shelf.old) 0
-        → ¬ Rose (H.failures shelf.old) (H.failures shelf.new)
-        → ¬ Rose (S.failures out.old) (S.failures out.new)
-        → (result.status ≡ 0) ⊎ (result.status ≡ 9) }
-
-    // What was asked of the shelf: one read of each file in their order, up to one that failed or
-    // the last that
-    // was needed.
-    ensures asked { result.status ≢ 3 → result.status ≢ 9
-        → AsksInOrder (names_in (requested (map string_bytes words.now))) (H.held shelf.old)
-        (H.asked shelf.old) (H.asked shelf.new) result.status }
-    ensures asked_in_vain { result.status ≡ 3 → (file : ℕ)
-        × AsksUpTo (names_in (requested (map string_bytes words.now))) (H.asked shelf.old)
-        (H.asked shelf.new) file
-        × EndsBy (E.is_sound faults.old) (requested (map string_bytes words.now)) (H.held shelf.old)
-        (E.written faults.old) (E.written faults.new)
-        (E.failures faults.old) (E.failures faults.new) (ReadFailed file)
-        × (H.is_sound shelf.old
-        → IsMissing (H.held shelf.old) (name_at (names_in (requested (map string_bytes words.now)))
-        file)) }
-
-    // What stays.
-    ensures held { H.held shelf.new ≡ H.held shelf.old }
-    ensures out { result.status ≢ 0 → result.status ≢ 4 → result.status ≢ 9 → out.new ≡ out.old }
-    ensures out_in_want { result.status ≡ 9 → (out.new ≡ out.old)
-        ⊎ (IsCutAtLine (requested (map string_bytes words.now)) (H.held shelf.old)
-        (S.written out.old) (S.written out.new)
-        ⊎ IsCutByFault (S.is_sound out.old) (S.failures out.old) (S.failures out.new)
-        (requested (map string_bytes words.now)) (H.held shelf.old) (S.written out.old) (S.written out.new)) }
-    ensures shelf_failures { H.failures shelf.old ≤ H.failures shelf.new }
-    ensures out_failures { S.failures out.old ≤ S.failures out.new }
-    ensures faults_failures { E.failures faults.old ≤ E.failures faults.new }
-    ensures sound { H.is_sound shelf.old → result.status ≡ 3 →
-        LacksOne (H.held shelf.old) (names_in (requested (map string_bytes words.now))) }
-    ensures out_sound { S.is_sound out.old → result.status ≢ 4 }
-    ensures shelf_stays_sound { H.is_sound shelf.old → H.is_sound shelf.new }
-    ensures out_stays_sound { S.is_sound out.old → S.is_sound out.new }
-    ensures faults_stay_sound { E.is_sound faults.old → E.is_sound faults.new }
-    ensures log { result.log ≡ record { limit = 200000; nodes = [] } }
+    // An explanation is the first complete set of the differences of the models in the files.
+    ensures headline { Headline (call_of H.Shelf S.Sink E.Sink (asked_by words.now)
+        shelf.old shelf.new out.old out.new faults.old faults.new) result }
+    // Status 0: the request was carried out.
+    ensures success { OnSuccess (call_of H.Shelf S.Sink E.Sink (asked_by words.now)
+        shelf.old shelf.new out.old out.new faults.old faults.new) result }
+    // Each other status: its cause, what is left on `out`, and its lines on `faults`.
+    ensures refusal { OnRefusal (call_of H.Shelf S.Sink E.Sink (asked_by words.now)
+        shelf.old shelf.new out.old out.new faults.old faults.new) result }
+    // The other way: which status the words and the contents of the files force.
+    ensures contents { OnContents (call_of H.Shelf S.Sink E.Sink (asked_by words.now)
+        shelf.old shelf.new out.old out.new faults.old faults.new) result }
+    // What was asked of the shelf, and what is on `out`.
+    ensures traces { OnTraces (call_of H.Shelf S.Sink E.Sink (asked_by words.now)
+        shelf.old shelf.new out.old out.new faults.old faults.new) result }
+    // What stays at every status.
+    ensures stays { Stays (call_of H.Shelf S.Sink E.Sink (asked_by words.now)
+        shelf.old shelf.new out.old out.new faults.old faults.new) result }
 {
     run(alloc, words, shelf, out, faults)
 }
 
+// The same call: the two ways in which it ends, from which each status follows.
 fn run<H: Shelf, S: Sink, E: Sink>(
     alloc: Global,
     words: &[String],
@@ -200,34 +98,10 @@ fn run<H: Shelf, S: Sink, E: Sink>(
     out: &mut S,
     faults: &mut E,
 ) -> Outcome
-    ensures ended { ((result.status ≡ 0)
-        × IsCarriedOut (requested (map string_bytes words.now)) (H.held shelf.old)
-        (H.asked shelf.old) (H.asked shelf.new) (S.written out.old) (S.written out.new)
-        result.answer × (faults.new ≡ faults.old))
-        ⊎ (IsNone result.answer × (refusal : Refusal)
-        × IsRefused (requested (map string_bytes words.now)) (H.held shelf.old) (H.asked shelf.old)
-        (H.asked shelf.new) refusal
-        × Leaves S.written S.failures S.is_sound (requested (map string_bytes words.now))
-        (H.held shelf.old) out.old out.new refusal
-        × IsTold (E.is_sound faults.old) (names_in (requested (map string_bytes words.now))) refusal
-        result.status
-        (E.written faults.old) (E.written faults.new) (E.failures faults.old) (E.failures faults.new)
-        × (H.is_sound shelf.old
-        → IsMissingWhereFailed (H.held shelf.old)
-        (names_in (requested (map string_bytes words.now))) refusal)) }
-    ensures no_request { requested (map string_bytes words.now) ≡ None
-        → (result.status ≡ 2) ⊎ (result.status ≡ 9) }
-    ensures read_failed { result.status ≡ 3 → Rose (H.failures shelf.old) (H.failures shelf.new) }
-    ensures write_failed { result.status ≡ 4 → Rose (S.failures out.old) (S.failures out.new) }
-    ensures held { H.held shelf.new ≡ H.held shelf.old }
-    ensures shelf_failures { H.failures shelf.old ≤ H.failures shelf.new }
-    ensures out_failures { S.failures out.old ≤ S.failures out.new }
-    ensures faults_failures { E.failures faults.old ≤ E.failures faults.new }
-    ensures out_sound { S.is_sound out.old → result.status ≢ 4 }
-    ensures shelf_stays_sound { H.is_sound shelf.old → H.is_sound shelf.new }
-    ensures out_stays_sound { S.is_sound out.old → S.is_sound out.new }
-    ensures faults_stay_sound { E.is_sound faults.old → E.is_sound faults.new }
-    ensures log { result.log ≡ record { limit = 200000; nodes = [] } }
+    ensures ended { Ended (call_of H.Shelf S.Sink E.Sink (asked_by words.now)
+        shelf.old shelf.new out.old out.new faults.old faults.new) result }
+    ensures stays { Stays (call_of H.Shelf S.Sink E.Sink (asked_by words.now)
+        shelf.old shelf.new out.old out.new faults.old faults.new) result }
 {
     match read_words(alloc, words) {
         Ok(request) => answer_request(alloc, &request, shelf, out, faults),
@@ -246,29 +120,10 @@ fn answer_request<H: Shelf, S: Sink, E: Sink>(
 ) -> Outcome
     requires counted { length (files_of request.now) ≡ count_of request.now }
     requires mce { AsksMce request.now }
-    ensures ended { ((result.status ≡ 0) × IsCarriedOut (Some request.now) (H.held shelf.old)
-        (H.asked shelf.old) (H.asked shelf.new) (S.written out.old) (S.written out.new)
-        result.answer × (faults.new ≡ faults.old))
-        ⊎ (IsNone result.answer × (refusal : Refusal)
-        × IsRefused (Some request.now) (H.held shelf.old) (H.asked shelf.old) (H.asked shelf.new)
-        refusal
-        × Leaves S.written S.failures S.is_sound (Some request.now) (H.held shelf.old) out.old out.new
-        refusal
-        × IsTold (E.is_sound faults.old) (names_in (Some request.now)) refusal result.status
-        (E.written faults.old) (E.written faults.new) (E.failures faults.old) (E.failures faults.new)
-        × (H.is_sound shelf.old
-        → IsMissingWhereFailed (H.held shelf.old) (names_in (Some request.now)) refusal)) }
-    ensures read_failed { result.status ≡ 3 → Rose (H.failures shelf.old) (H.failures shelf.new) }
-    ensures write_failed { result.status ≡ 4 → Rose (S.failures out.old) (S.failures out.new) }
-    ensures held { H.held shelf.new ≡ H.held shelf.old }
-    ensures shelf_failures { H.failures shelf.old ≤ H.failures shelf.new }
-    ensures out_failures { S.failures out.old ≤ S.failures out.new }
-    ensures faults_failures { E.failures faults.old ≤ E.failures faults.new }
-    ensures out_sound { S.is_sound out.old → result.status ≢ 4 }
-    ensures shelf_stays_sound { H.is_sound shelf.old → H.is_sound shelf.new }
-    ensures out_stays_sound { S.is_sound out.old → S.is_sound out.new }
-    ensures faults_stay_sound { E.is_sound faults.old → E.is_sound faults.new }
-    ensures log { result.log ≡ record { limit = 200000; nodes = [] } }
+    ensures ended { Ended (call_of H.Shelf S.Sink E.Sink (Some request.now)
+        shelf.old shelf.new out.old out.new faults.old faults.new) result }
+    ensures stays { Stays (call_of H.Shelf S.Sink E.Sink (Some request.now)
+        shelf.old shelf.new out.old out.new faults.old faults.new) result }
 {
     match serve(alloc, request, shelf, out) {
         Ok(told) => Outcome {
@@ -290,7 +145,7 @@ fn answer_of(request: &Request, told: Places) -> Option<Answer>
     }
 }
 
-// The differences that what was written tells, or why nothing was.
+// The differences that the written answer tells, or why there is no answer.
 fn serve<H: Shelf, S: Sink>(
     alloc: Global,
     request: &Request,
@@ -299,23 +154,21 @@ fn serve<H: Shelf, S: Sink>(
 ) -> Result<Places, Refusal>
     requires counted { length (files_of request.now) ≡ count_of request.now }
     requires mce { AsksMce request.now }
-    ensures ok { IfOk result (λ told. IsCarriedOut (Some request.now) (H.held shelf.old)
-        (H.asked shelf.old) (H.asked shelf.new) (S.written out.old) (S.written out.new) (answer_in (Some request.now) told)) }
-    ensures err { IfErr result (IsRefused (Some request.now) (H.held shelf.old) (H.asked shelf.old)
-        (H.asked shelf.new)) }
-    ensures leaves { IfErr result (Leaves S.written S.failures S.is_sound (Some request.now)
-        (H.held shelf.old) out.old out.new) }
+    ensures ok { IfOk result (λ told. IsCarriedOut (Some request.now)
+        (shelf_change H.Shelf shelf.old shelf.new) (sink_change S.Sink out.old out.new)
+        (answer_in (Some request.now) told)) }
+    ensures err { IfErr result (IsRefused (Some request.now)
+        (shelf_change H.Shelf shelf.old shelf.new)) }
+    ensures leaves { IfErr result (Leaves (Some request.now) (H.held shelf.old)
+        (sink_change S.Sink out.old out.new)) }
     ensures of_file { IfErr result (IsOfFile (files_of request.now)) }
     ensures read_failed { IfErr result (λ refusal.
         IsReadFailed refusal → Rose (H.failures shelf.old) (H.failures shelf.new)) }
-    ensures write_failed { IfErr result (λ refusal.
-        IsWriteFailed refusal → Rose (S.failures out.old) (S.failures out.new)) }
     ensures held { H.held shelf.new ≡ H.held shelf.old }
     ensures shelf_failures { H.failures shelf.old ≤ H.failures shelf.new }
     ensures out_failures { S.failures out.old ≤ S.failures out.new }
     ensures sound { H.is_sound shelf.old
         → IfErr result (IsMissingWhereFailed (H.held shelf.old) (files_of request.now)) }
-    ensures out_sound { S.is_sound out.old → IfErr result (λ refusal. ¬ IsWriteFailed refusal) }
     ensures shelf_stays_sound { H.is_sound shelf.old → H.is_sound shelf.new }
     ensures out_stays_sound { S.is_sound out.old → S.is_sound out.new }
 {
@@ -332,7 +185,7 @@ fn serve<H: Shelf, S: Sink>(
     }
 }
 
-// What is printed about the contents, or why nothing is.
+// What is printed about the contents, or why nothing is printed.
 fn answer_contents(
     alloc: Global,
     request: &Request,
@@ -355,18 +208,18 @@ fn answer_contents(
     }
 }
 
+// The outcome of a refusal, reported on `faults`.
 fn refuse<E: Sink>(alloc: Global, refusal: &Refusal, files: &List<Text>, faults: &mut E) -> Outcome
     requires { IsOfFile files.now refusal.now }
-    ensures told { IsTold (E.is_sound faults.old) files.now refusal.now result.status
-        (E.written faults.old) (E.written faults.new)
-        (E.failures faults.old) (E.failures faults.new) }
+    ensures reported { IsReported (sink_change E.Sink faults.old faults.new) files.now refusal.now
+        result.status }
     ensures never_falls { E.failures faults.old ≤ E.failures faults.new }
     ensures stays_sound { E.is_sound faults.old → E.is_sound faults.new }
     ensures answer { IsNone result.answer }
     ensures log { result.log ≡ record { limit = 200000; nodes = [] } }
 {
     Outcome {
-        status: tell(alloc, refusal, files, faults),
+        status: report(alloc, refusal, files, faults),
         answer: None,
         log: NodeLog::new(alloc, NODE_LIMIT),
     }

@@ -31,7 +31,7 @@ use Rattle.mre_base.proofs.Tests.{not_false}
 on_is : (content : Content) (b : Bool) → content ≡ Feature b → is_on content ≡ b
 on_is content b is = ap is_on is
 
--- what a difference says of a feature that the user's model alone has
+-- what a difference says of a feature that only the user's model has
 pub record IsAlone (p : Place) (d : Difference) : Type 0 where
   pub at : place_of d ≡ p
   pub planner_lacks : planner_content d ≡ Feature false

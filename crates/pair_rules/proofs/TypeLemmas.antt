@@ -19,7 +19,7 @@ use Rattle.mre_base.proofs.Loops.{All_item}
 use Rattle.model_kit.proofs.Fits.{object_listed}
 use Rattle.model_kit.proofs.ListLemmas.{range_contains}
 use Rattle.model_kit.proofs.WordFacts.{TypeFacts, facts_of_words, type_listed, signature_types}
-use Rattle.model_kit.proofs.TypeLemmas.{ancestor-add, steps_up, from_steps_up, entry_passes, entry_from}
+use Rattle.model_kit.proofs.TypeLemmas.{past_the_top, steps_up, from_steps_up, entry_passes, entry_from}
 use Rattle.task_kit.proofs.PlaceLemmas.{push_cases}
 use Rattle.joint_models.proofs.Mapped.{range_more}
 use Rattle.pair_rules.proofs.PartLemmas.{filter_has, filter_keeps}
@@ -80,13 +80,6 @@ module _ (types : List (List ℕ × ℕ)) (kind : ℕ) where
       by k (inr same) = subst (λ i. set.contains new.members i ≡ true) (is ∙ ap (λ i. ancestor types i kind) (sym same)) (put_there old new current put)
 
   module _ (facts : TypeFacts types) where
-    first_parent : parent types 0 ≡ 0
-    first_parent = ap (λ o. option_map_or (λ entry. entry.1) o 0) facts.first
-
-    first_stays : (m : ℕ) → ancestor types m 0 ≡ 0
-    first_stays zero = refl
-    first_stays (suc m) = ap (parent types) (first_stays m) ∙ first_parent
-
     -- a set that goes as far up as there are types, or up to the first type, has all types above
     pub above_all : (steps : ℕ) (bits : BitSet) → AreAbove types kind steps bits → steps ≤ length types + 1 → (length types + 1 ≤ steps) ⊎ ((last : ℕ) × (steps ≡ last + 1) × (ancestor types last kind ≡ 0))
         → (above : ℕ) → set.contains bits.members above ≡ is_of_type types kind above
@@ -95,21 +88,14 @@ module _ (types : List (List ℕ × ℕ)) (kind : ℕ) where
         (λ has. let found = set_is.only above has in from_steps_up types kind above found.0 (let low = found.1 in omega (arith, low, most)) found.2)
         (λ is. let (n, few, at) = steps_up types kind above is in subst (λ i. set.contains bits.members i ≡ true) at (reached n few (cases_order n steps) ends))
       where
-        split : (n last : ℕ) → last ≤ n → n ≡ (n - last) + last
-        split n last le = omega (arith, le)
-
-        at_last : (n last : ℕ) → last ≤ n → ancestor types last kind ≡ 0 → ancestor types n kind ≡ 0
-        at_last n last le zero_there =
-            ap (λ m. ancestor types m kind) (split n last le) ∙ ancestor-add types (n - last) last kind ∙ ap (ancestor types (n - last)) zero_there ∙ first_stays (n - last)
-
         reached : (n : ℕ) → n ≤ length types → (n ≡ steps) ⊎ ((n < steps) ⊎ (steps < n)) → (length types + 1 ≤ steps) ⊎ ((last : ℕ) × (steps ≡ last + 1) × (ancestor types last kind ≡ 0)) → set.contains bits.members (ancestor types n kind) ≡ true
         reached n few (inr (inl low)) ended = set_is.there n low
         reached n few (inl same) (inl whole) = absurd (omega (arith, few, same, whole))
         reached n few (inr (inr past)) (inl whole) = absurd (omega (arith, few, past, whole))
         reached n few (inl same) (inr (last, next, zero_there)) =
-            subst (λ i. set.contains bits.members i ≡ true) (zero_there ∙ sym (at_last n last (omega (arith, same, next)) zero_there)) (set_is.there last (omega (arith, next)))
+            subst (λ i. set.contains bits.members i ≡ true) (zero_there ∙ sym (past_the_top types facts kind last n (omega (arith, same, next)) zero_there)) (set_is.there last (omega (arith, next)))
         reached n few (inr (inr past)) (inr (last, next, zero_there)) =
-            subst (λ i. set.contains bits.members i ≡ true) (zero_there ∙ sym (at_last n last (omega (arith, past, next)) zero_there)) (set_is.there last (omega (arith, next)))
+            subst (λ i. set.contains bits.members i ≡ true) (zero_there ∙ sym (past_the_top types facts kind last n (omega (arith, past, next)) zero_there)) (set_is.there last (omega (arith, next)))
 
 -- ---- what is known of a vocabulary
 module _ (words : Vocabulary) where
@@ -203,7 +189,7 @@ module _ (words : Vocabulary) where
           let at : slice_get sets o ≡ Some bits = slice_get-get_or sets o (record { width = 0; members = set.empty }) (omega (arith, lt, are.counted)) in
           entry_from (λ b. set.contains b.members kind) sets o bits at ((are.each o bits at).each kind ∙ fit)
 
--- one more object whose set has a type, or hasn't
+-- one more object, whose set has a type or doesn't
 pub object_more : (sets : List BitSet) (kind n : ℕ) (bits : BitSet) → slice_get sets n ≡ Some bits → (has : Bool) → set.contains bits.members kind ≡ has → (made : List ℕ)
     → made ≡ filter (has_type sets kind) (range_with_len 0 n) → made ++ cond has (n ∷ []) [] ≡ filter (has_type sets kind) (range_with_len 0 (n + 1))
 object_more sets kind n bits at has is made before =

@@ -8,7 +8,7 @@ ghost use Rattle.std.specs.List.{filter_map};
 ghost use Rattle.pair_rules.specs.Made.{is_pre, user_add as added_alone, user_init as true_alone};
 ghost use Rattle.pair_rules.specs.Made.{user_cost as costs_alone, user_key as valued, key_of};
 
-use feature_diff::{ActionPart, Difference, Part, place_at};
+use feature_diff::{ActionPart, Difference, SchemaPart, place_at};
 use model_kit::{CostExpr, GroundAtom, SchemaAtom};
 use mre_base::{Copied, List, NoMemory};
 use std::alloc::Global;
@@ -17,7 +17,7 @@ use std::alloc::Global;
 fn differs(action: u32, atom: &SchemaAtom, differences: &List<Difference>) -> bool
     ensures { result ≡ is_pre action atom.now differences.now }
 {
-    let part = Part::Pre;
+    let part = SchemaPart::Pre;
     place_at(atom, &ActionPart { action, part }, differences).is_some()
 }
 

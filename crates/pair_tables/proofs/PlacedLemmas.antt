@@ -14,8 +14,8 @@ use Rattle.model_kit.proofs.ActionLemmas.{signature_of, atom_placed, instance_gr
 use Rattle.model_kit.proofs.Fits.{signature_listed}
 use Rattle.case_kit.specs.declared.cases.When.{When}
 use Rattle.feature_diff.specs.declared.difference.Difference.{Difference}
-use Rattle.feature_diff.specs.declared.schema_parts.Part.{Part}
-use Rattle.feature_diff.specs.declared.schema_parts.Part.TheVariants.{Pre, Add, Del}
+use Rattle.feature_diff.specs.declared.schema_parts.SchemaPart.{SchemaPart}
+use Rattle.feature_diff.specs.declared.schema_parts.SchemaPart.TheVariants.{Pre, Add, Del}
 use Rattle.feature_diff.specs.Telling.{part_of, place_in}
 use Rattle.pair_rules.specs.Ruled.{models_of}
 use Rattle.pair_rules.proofs.RuleLemmas.{schema_there}
@@ -24,24 +24,24 @@ use Rattle.pair_tables.proofs.SchemaLemmas.{part_is}
 use Rattle.pair_tables.proofs.TableLemmas.{when_either}
 
 module _ (model : Model) (action : GroundAction) (fits : IsGroundAction model.words action) where
-  listed_fits : (schema : Schema) → slice_get model.schemas action.schema ≡ Some schema → (part : Part) (f : SchemaAtom) → Contains (part_of part schema) f → IsTrue (is_schema_atom model.words (signature_of model action fits).0.params f)
+  listed_fits : (schema : Schema) → slice_get model.schemas action.schema ≡ Some schema → (part : SchemaPart) (f : SchemaAtom) → Contains (part_of part schema) f → IsTrue (is_schema_atom model.words (signature_of model action fits).0.params f)
   listed_fits schema at Pre f among = All-contains (λ g. IsTrue (is_schema_atom model.words (signature_of model action fits).0.params g)) schema.pre f (schema_kept model action fits schema at).pre_kept.fit among
   listed_fits schema at Add f among = All-contains (λ g. IsTrue (is_schema_atom model.words (signature_of model action fits).0.params g)) schema.add f (schema_kept model action fits schema at).add_kept.fit among
   listed_fits schema at Del f among = All-contains (λ g. IsTrue (is_schema_atom model.words (signature_of model action fits).0.params g)) schema.del f (schema_kept model action fits schema at).del_kept.fit among
 
-  feature_placed : (part : Part) (f : SchemaAtom) → Has (meaning model) (place_in part action.schema f) → ArePlaced action.objects f.args
+  feature_placed : (part : SchemaPart) (f : SchemaAtom) → Has (meaning model) (place_in part action.schema f) → ArePlaced action.objects f.args
   feature_placed part f has =
       let (schema, at) = schema_there model action.schema (signature_listed (is_object_of model.words) model.words.actions action.schema action.objects fits) in
       atom_placed model action fits f (listed_fits schema at part f ((part_is model action.schema schema at part f).1 has))
 
   -- with its objects put in, a feature is a ground atom
-  pub feature_ground : (part : Part) (f : SchemaAtom) → Has (meaning model) (place_in part action.schema f) → IsTrue (is_ground_atom model.words (instance action.objects f))
+  pub feature_ground : (part : SchemaPart) (f : SchemaAtom) → Has (meaning model) (place_in part action.schema f) → IsTrue (is_ground_atom model.words (instance action.objects f))
   feature_ground part f has =
       let (schema, at) = schema_there model action.schema (signature_listed (is_object_of model.words) model.words.actions action.schema action.objects fits) in
       instance_ground model action fits f (listed_fits schema at part f ((part_is model action.schema schema at part f).1 has))
 
 module _ (planner user : Model) (joint : user.words ≡ planner.words) (differences : List Difference) (action : GroundAction) (fits : IsGroundAction planner.words action) where
-  pub features_placed : (part : Part) (features : List (SchemaAtom × When)) → AreFeatures (models_of planner user differences) SchemaAtom (place_in part action.schema) features
+  pub features_placed : (part : SchemaPart) (features : List (SchemaAtom × When)) → AreFeatures (models_of planner user differences) SchemaAtom (place_in part action.schema) features
       → All (λ feature. ArePlaced action.objects feature.0.args) features
   features_placed part features are =
       All-weaker (Contains features) (λ (feature : SchemaAtom × When). ArePlaced action.objects feature.0.args)

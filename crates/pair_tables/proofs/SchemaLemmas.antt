@@ -20,8 +20,8 @@ use Rattle.case_kit.specs.declared.cases.When.TheVariants.{Always, IfTold, IfLef
 use Rattle.feature_diff.specs.declared.difference.Difference.{Difference}
 use Rattle.feature_diff.specs.declared.facts.FactKind.{FactKind}
 use Rattle.feature_diff.specs.declared.facts.FactKind.TheVariants.{Init, Goal}
-use Rattle.feature_diff.specs.declared.schema_parts.Part.{Part}
-use Rattle.feature_diff.specs.declared.schema_parts.Part.TheVariants.{Pre, Add, Del}
+use Rattle.feature_diff.specs.declared.schema_parts.SchemaPart.{SchemaPart}
+use Rattle.feature_diff.specs.declared.schema_parts.SchemaPart.TheVariants.{Pre, Add, Del}
 use Rattle.feature_diff.specs.Differing.{places_of, AreDifferencesOf}
 use Rattle.feature_diff.specs.Telling.{facts_of, fact_place, part_of, place_in}
 use Rattle.named_tables.specs.Models.{Models, EitherHas}
@@ -38,12 +38,12 @@ pub fact_is : (model : Model) (kind : FactKind) (f : GroundAtom) → Contains (f
 fact_is model Init f = (any_from_listed same_atom same_atom-decides f model.init, listed_from_any same_atom same_atom-decides f model.init)
 fact_is model Goal f = (any_from_listed same_atom same_atom-decides f model.goal, listed_from_any same_atom same_atom-decides f model.goal)
 
-pub part_is : (model : Model) (action : ℕ) (schema : Schema) → slice_get model.schemas action ≡ Some schema → (part : Part) (f : SchemaAtom) → Contains (part_of part schema) f ↔ Has (meaning model) (place_in part action f)
+pub part_is : (model : Model) (action : ℕ) (schema : Schema) → slice_get model.schemas action ≡ Some schema → (part : SchemaPart) (f : SchemaAtom) → Contains (part_of part schema) f ↔ Has (meaning model) (place_in part action f)
 part_is model action schema at Pre f = (part_has model action schema at (λ s. s.pre) f, has_part model action schema at (λ s. s.pre) f)
 part_is model action schema at Add f = (part_has model action schema at (λ s. s.add) f, has_part model action schema at (λ s. s.add) f)
 part_is model action schema at Del f = (part_has model action schema at (λ s. s.del) f, has_part model action schema at (λ s. s.del) f)
 
--- what is said of a list is said of one that is the same
+-- what holds of a list holds of an equal list
 like : {F : Type 0} (list same : List F) (P : F → Type 0) → list ≡ same → ((f : F) → Contains same f ↔ P f) → (f : F) → Contains list f ↔ P f
 like list same P is said f = (λ there. (said f).0 (subst (λ l. Contains l f) is there), λ has. subst (λ l. Contains l f) (sym is) ((said f).1 has))
 
@@ -59,7 +59,7 @@ module _ (planner user : Model) (differences : List Difference) (all : AreDiffer
       (like own (facts_of kind planner) (λ f. Has (meaning planner) (fact_place kind f)) own_is (fact_is planner kind))
       (like other (facts_of kind user) (λ f. Has (meaning user) (fact_place kind f)) other_is (fact_is user kind)))
 
-  pub parts_are : (part : Part) (action : ℕ) (one two : Schema) → slice_get planner.schemas action ≡ Some one → slice_get user.schemas action ≡ Some two
+  pub parts_are : (part : SchemaPart) (action : ℕ) (one two : Schema) → slice_get planner.schemas action ≡ Some one → slice_get user.schemas action ≡ Some two
       → (own other : List SchemaAtom) → own ≡ part_of part one → other ≡ part_of part two
       → (made : List (SchemaAtom × When)) → made ≡ features (λ f. number_from 1 (places_of differences) (place_in part action f)) own other → AreFeatures models SchemaAtom (place_in part action) made
   parts_are part action one two one_at two_at own other own_is other_is made is =

@@ -232,7 +232,7 @@ module _ (models : Models) where
             q_own (subst (Has models.planner) (number_one models.places p q n p_is q_is) p_own);
       }
 
--- the same by numbers that are looked up
+-- likewise by numbers that are looked up
 module _ (models : Models) (atoms : List GroundAtom) (actions : List GroundAction) (reachable : ListsReachable models atoms actions) (number : GroundAtom → ℕ) (same : (atom : GroundAtom) → number atom ≡ number_in atoms atom)
     (start goal : List Case) (made : List CaseAction) where
   abbrev one : number ≡ number_in atoms

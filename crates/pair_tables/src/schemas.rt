@@ -15,7 +15,7 @@ ghost use Rattle.pair_tables.specs.Schemas.{IsSchemaCases, AreSchemaCases};
 use crate::features::{features_of, number_at};
 use case_kit::When;
 use feature_diff::{
-    ActionKind, ActionPart, Difference, FactKind, Pair, Part, atoms_in, facts_in, knows,
+    ActionKind, ActionPart, Difference, FactKind, Pair, SchemaPart, atoms_in, facts_in, knows,
 };
 use model_kit::{GroundAtom, SchemaAtom};
 use mre_base::{List, NoMemory, narrowed};
@@ -67,7 +67,7 @@ fn part_features(
     pair: &Pair,
     differences: &List<Difference>,
     action: u32,
-    part: Part,
+    part: SchemaPart,
 ) -> Result<List<(SchemaAtom, When)>, NoMemory>
     requires few { length differences.now ≤ 256 }
     requires all { AreDifferencesOf pair.now.planner pair.now.user differences.now }
@@ -115,9 +115,9 @@ fn schema_cases(
         action) }
 {
     Ok(SchemaCases {
-        pre: part_features(alloc, pair, differences, action, Part::Pre)?,
-        add: part_features(alloc, pair, differences, action, Part::Add)?,
-        del: part_features(alloc, pair, differences, action, Part::Del)?,
+        pre: part_features(alloc, pair, differences, action, SchemaPart::Pre)?,
+        add: part_features(alloc, pair, differences, action, SchemaPart::Add)?,
+        del: part_features(alloc, pair, differences, action, SchemaPart::Del)?,
         known: known_when(pair, differences, action),
         cost: number_at(&action, &ActionKind::Cost, differences),
     })

@@ -32,6 +32,7 @@ use Rattle.pddl_names.specs.declared.role.Word.{Word}
 use Rattle.pddl_names.specs.Roles.{listed, typed, role_at, word_of, words_of}
 use Rattle.pddl_models.specs.Saying.{is_calling, is_of_problem, AreNoTotals, AreOfProblem}
 use Rattle.pddl_models.proofs.PlaceInLemmas.{name_same}
+use Rattle.pddl_form.proofs.MetLemmas.{same_met}
 
 -- ---- functions of costs and values
 
@@ -273,9 +274,6 @@ goes_due (next.Two p q) due f go d m Q first all more e =
     let parts = and_parts (is_problem_part p) (is_problem_part q) first in
     more (p ∷ q ∷ due) (and_from (is_problem_part p) (is_problem_part q && all_due due) parts.0 (and_from (is_problem_part q) (all_due due) parts.1 all)) e
 goes_due next.Refused due f go d m Q first all more e = absurd cc
-
-same_met : (due d : List Part) (met m : List Met) → Going due met ≡ Going d m → met ≡ m
-same_met due d met m e = cc
 
 run_roles : (due : List Part) (met : List Met) (tokens : List Token) (d : List Part) (m : List Met) → all_due due ≡ true → AllByRecursion IsOf (words_of met) → run due met tokens ≡ Going d m → AllByRecursion IsOf (words_of m)
 run_roles [] met [] d m ok all e = subst (λ ms. AllByRecursion IsOf (words_of ms)) (same_met [] d met m e) all

@@ -46,13 +46,11 @@ module _ (k : Kind) (words : List Word) where
       none name ∙ sym (ap (λ es. arity_of es name) (signed_none k)) ∙ ap (λ ws. arity_of (signed_in k ws) name) (sym (drop_all place words all))
 
   module _ (signed : is_signed k ≡ true) (place : ℕ) (w : Word) (positive : 0 < place) (at : slice_get words (place - 1) ≡ Some w) where
-    back : place - 1 + 1 ≡ place
-    back = omega arith
-
     step : (b : Bool) → is_kind k w.role ≡ b → (name : Text)
         → arity_of (signed_in k (drop (place - 1) words)) name
         ≡ arity_of (cond b ((w.text, types_of (own_params (drop place words))) ∷ signed_in k (drop place words)) (signed_in k (drop place words))) name
     step b is name =
+        let back : place - 1 + 1 ≡ place = omega arith in
         ap (λ ws. arity_of (signed_in k ws) name) (drop_item words (place - 1) w at)
         ∙ ap (λ n. arity_of (signed_in k (w ∷ drop n words)) name) back
         ∙ ap (λ es. arity_of es name) (signed_step k signed w (drop place words))
@@ -60,6 +58,7 @@ module _ (k : Kind) (words : List Word) where
 
     count_is : (counts : List ℕ) → AreParamCounts words counts → place ≤ length words → slice_index counts (place - 1) ≡ length (types_of (own_params (drop place words)))
     count_is counts known within =
+        let back : place - 1 + 1 ≡ place = omega arith in
         known.each (place - 1) (omega arith) (omega arith) ∙ ap (λ n. length (own_params (drop n words))) back
         ∙ sym (length-map (own_params (drop place words)) (λ (p : Typed). p.1))
 

@@ -17,12 +17,10 @@ module _ (k : Kind) (words : List Word) where
   ArePlacesFrom place table = (name : Text) → number_in table name ≡ position_from (declares k name) place (drop place words)
 
   module _ (place : ℕ) (w : Word) (positive : 0 < place) (at : slice_get words (place - 1) ≡ Some w) where
-    back : place - 1 + 1 ≡ place
-    back = omega arith
-
     step : (name : Text) → position_from (declares k name) (place - 1) (drop (place - 1) words)
         ≡ cond (declares k name w) (Some (place - 1)) (position_from (declares k name) place (drop place words))
     step name =
+        let back : place - 1 + 1 ≡ place = omega arith in
         ap (position_from (declares k name) (place - 1)) (drop_item words (place - 1) w at)
         ∙ ap (λ j. cond (declares k name w) (Some (place - 1)) (position_from (declares k name) j (drop j words))) back
 

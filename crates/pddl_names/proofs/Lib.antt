@@ -12,7 +12,6 @@ pub mod KindLemmas
 pub mod PlaceLemmas
 pub mod ScanLemmas
 pub mod CountLemmas
-pub mod NamingVectors
 pub mod ArityLemmas
 pub mod AgainLemmas
 pub mod ParamLemmas

@@ -156,12 +156,9 @@ module _ (ups : List ℕ) (before seen after : List Bool) (start end : ℕ) (pat
         }
 
   module _ (nodes : List Node) (done : List Bool) (place number : ℕ) (positive : 0 < place) (within : place ≤ length path) (is_number : slice_index path (place - 1) ≡ number) (old : Settling ups nodes done before after path end place) where
-    back_one : place - 1 + 1 ≡ place
-    back_one = omega (arith, positive)
-
     pub above : IsMarked done (up ups number) × ((node_at nodes (up ups number)).root ≡ (node_at nodes end).root)
     above =
-        let there = old.next (place - 1) back_one in
+        let there = old.next (place - 1) (omega (arith, positive)) in
         (ap (λ k. slice_index_or done (up ups k) false) (sym is_number) ∙ there.0, ap (λ k. (node_at nodes (up ups k)).root) (sym is_number) ∙ there.1)
 
     -- the number before is just below this one

@@ -17,12 +17,10 @@ module _ {X : Type 0} (name_of : X → List ℕ) (entries : List X) where
   table_none place table all none name = none name ∙ ap (position_from (λ entry. bytes_eq (name_of entry) name) place) (sym (drop_all place entries all))
 
   module _ (place : ℕ) (entry : X) (positive : 0 < place) (at : slice_get entries (place - 1) ≡ Some entry) where
-    back : place - 1 + 1 ≡ place
-    back = omega arith
-
     put_step : (name : List ℕ) → position_from (λ e. bytes_eq (name_of e) name) (place - 1) (drop (place - 1) entries)
         ≡ (if bytes_eq (name_of entry) name then Some (place - 1) else position_from (λ e. bytes_eq (name_of e) name) place (drop place entries))
     put_step name =
+        let back : place - 1 + 1 ≡ place = omega arith in
         ap (position_from (λ e. bytes_eq (name_of e) name) (place - 1)) (drop_item entries (place - 1) entry at)
         ∙ ap (λ k. if bytes_eq (name_of entry) name then Some (place - 1) else position_from (λ e. bytes_eq (name_of e) name) k (drop k entries)) back
 

@@ -145,16 +145,10 @@ module _ (task : TaskMeaning) (left : List ℕ) (among : Numbers) (i : ℕ) wher
   weigh_more (Some weight) r x e counts_it read weigh =
       subst (IsWeight task (i + 1) left among) (sym e)
       (elim (cases_lt x weight) [
-        | inl lt ↦ subst (IsLeastLeft task (i + 1) left among) (first x weight lt) (here_least x counts_it read (λ other less counted. at_most _ _ _ lt (weigh.within other less counted)))
-        | inr le ↦ subst (IsLeastLeft task (i + 1) left among) (second x weight le) (there_least x weight read le weigh)
+        | inl lt ↦ let is : x ≡ min x weight = omega arith in subst (IsLeastLeft task (i + 1) left among) is (here_least x counts_it read (λ other less counted. at_most _ _ _ lt (weigh.within other less counted)))
+        | inr le ↦ let is : weight ≡ min x weight = omega arith in subst (IsLeastLeft task (i + 1) left among) is (there_least x weight read le weigh)
       ])
     where
-      first : (n m : ℕ) → n < m → n ≡ min n m
-      first n m lt = omega arith
-
-      second : (n m : ℕ) → m ≤ n → m ≡ min n m
-      second n m le = omega arith
-
       at_most : (n m k : ℕ) → n < m → m ≤ k → n ≤ k
       at_most n m k lt le = omega arith
 

@@ -49,14 +49,17 @@ pub const ROADS: Rows = Rows {
 /// A parcel is to come from the hub to the mill by truck. Types come before and after the types
 /// above them.
 pub const DELIVERY: Rows = Rows {
-    types: "object object, truck thing, thing object, parcel thing, depot place, place object, shop place",
+    types: "object object, truck thing, thing object, parcel thing, depot place, place object, \
+        shop place",
     objects: "hub depot, t1 truck, k1 parcel, mill shop, north shop",
     predicates: "at thing place, in parcel truck, road place place",
     functions: "road-length place place",
     actions: "drive truck place place, load parcel truck place, unload parcel truck place",
     init: "at t1 hub, at k1 hub, road hub mill, road mill hub, road hub north",
     goal: "at k1 mill",
-    schemas: "at ?1 ?2, road ?2 ?3 / at ?1 ?3 / at ?1 ?2 / road-length ?2 ?3; at ?1 ?3, at ?2 ?3 / in ?1 ?2 / at ?1 ?3 / 1; in ?1 ?2, at ?2 ?3 / at ?1 ?3 / in ?1 ?2 / 1",
-    values: "road-length hub mill = 5, road-length mill hub = 5, road-length hub north = 1, road-length north mill = 1",
+    schemas: "at ?1 ?2, road ?2 ?3 / at ?1 ?3 / at ?1 ?2 / road-length ?2 ?3; \
+        at ?1 ?3, at ?2 ?3 / in ?1 ?2 / at ?1 ?3 / 1; in ?1 ?2, at ?2 ?3 / at ?1 ?3 / in ?1 ?2 / 1",
+    values: "road-length hub mill = 5, road-length mill hub = 5, road-length hub north = 1, \
+        road-length north mill = 1",
     unknown: "",
 };

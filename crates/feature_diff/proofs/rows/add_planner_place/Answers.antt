@@ -2,7 +2,7 @@ use Rattle.std.proofs.Common.{Some, subst}
 use Rattle.std.specs.BTreeMap.{Updates}
 use Rattle.feature_diff.specs.Rows.{form_cmp}
 use Rattle.feature_diff.proofs.RowLemmas.{planner_noted}
-use Rattle.feature_diff.proofs.rows.note_planner.Goals as goal
+use Rattle.feature_diff.proofs.rows.add_planner_place.Goals as goal
 
 pub returns : goal.returns
 returns c = record {

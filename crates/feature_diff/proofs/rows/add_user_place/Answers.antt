@@ -2,7 +2,7 @@ use Rattle.std.proofs.Common.{Some, subst}
 use Rattle.std.specs.BTreeMap.{Updates}
 use Rattle.feature_diff.specs.Rows.{form_cmp}
 use Rattle.feature_diff.proofs.RowLemmas.{user_noted}
-use Rattle.feature_diff.proofs.rows.note_user.Goals as goal
+use Rattle.feature_diff.proofs.rows.add_user_place.Goals as goal
 
 pub returns : goal.returns
 returns c = record {

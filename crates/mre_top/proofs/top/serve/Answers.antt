@@ -1,44 +1,30 @@
-use Rattle.std.proofs.Common.{ℕ, List, Vec, Some, Err, map, refl, ap, ◌∙◌, inr}
+use Rattle.std.proofs.Common.{Err, Some, refl, ap, ◌∙◌, inr}
 use Rattle.std.specs.List.{concat}
-use Rattle.std.specs.declared.alloc.Global.{Global}
+use Rattle.mre_top.specs.Calls.{shelf_change}
 use Rattle.mre_top.proofs.Served.{served_unwritten, served_memory, asked_of, answered_of}
 use Rattle.mre_top.proofs.top.serve.Goals as goal
 
 pub returns-in-Ok-write_lines-clause-ok : goal.returns-in-Ok-write_lines-clause-ok
 returns-in-Ok-write_lines-clause-ok g c =
-    let texts : List (List ℕ) = map (λ (bytes : Vec ℕ Global). bytes.items) c.in-Ok.contents in
-    let request = c.args.request.now in
-    let held = g.H.Shelf.held c.args.shelf.now in
-    let old = g.H.Shelf.asked c.args.shelf.now in
-    let new = g.H.Shelf.asked c.read_files.new.shelf in
     let made = c.in-Ok-answer_contents.made in record {
       told = made.told;
       text = concat made.lines;
-      answered = answered_of request held old new c.files.result.now c.files.ensures texts c.in-Ok.ensures.contents made.told (concat made.lines) c.in-Ok-answer_contents.ensures.ok;
+      answered = answered_of c.args.request.now c.files.result.now c.files.ensures (g.H.Shelf.held c.args.shelf.now) _ c.in-Ok.ensures.contents made.told (concat made.lines) c.in-Ok-answer_contents.ensures.ok;
       answer_is = refl;
-      asked = asked_of request held old new c.files.result.now c.files.ensures c.in-Ok.ensures.asked;
+      asked = asked_of c.args.request.now c.files.result.now c.files.ensures _ _ c.in-Ok.ensures.asked;
       written = c.in-Ok-write_lines.ensures.ok;
     }
 
 pub returns-in-Err-Failed-clause-err : goal.returns-in-Err-Failed-clause-err
 returns-in-Err-Failed-clause-err g c =
-    let texts : List (List ℕ) = map (λ (bytes : Vec ℕ Global). bytes.items) c.in-Ok.contents in
-    let request = c.args.request.now in
-    let held = g.H.Shelf.held c.args.shelf.now in
-    let old = g.H.Shelf.asked c.args.shelf.now in
-    let new = g.H.Shelf.asked c.read_files.new.shelf in
     let made = c.in-Ok-answer_contents.made in
-    served_unwritten (Some request) held old new made.told (concat made.lines)
-    (answered_of request held old new c.files.result.now c.files.ensures texts c.in-Ok.ensures.contents made.told (concat made.lines) c.in-Ok-answer_contents.ensures.ok)
-    (asked_of request held old new c.files.result.now c.files.ensures c.in-Ok.ensures.asked)
+    served_unwritten (Some c.args.request.now) (shelf_change g.H.Shelf c.args.shelf.now c.read_files.new.shelf)
+    (asked_of c.args.request.now c.files.result.now c.files.ensures _ _ c.in-Ok.ensures.asked)
+    made.told (concat made.lines)
+    (answered_of c.args.request.now c.files.result.now c.files.ensures (g.H.Shelf.held c.args.shelf.now) _ c.in-Ok.ensures.contents made.told (concat made.lines) c.in-Ok-answer_contents.ensures.ok)
 
 pub returns-in-Err-Failed-clause-leaves : goal.returns-in-Err-Failed-clause-leaves
 returns-in-Err-Failed-clause-leaves g c =
-    let texts : List (List ℕ) = map (λ (bytes : Vec ℕ Global). bytes.items) c.in-Ok.contents in
-    let request = c.args.request.now in
-    let held = g.H.Shelf.held c.args.shelf.now in
-    let old = g.H.Shelf.asked c.args.shelf.now in
-    let new = g.H.Shelf.asked c.read_files.new.shelf in
     let made = c.in-Ok-answer_contents.made in
     let failed = c.in-Err-Failed.is ∙ ap Err c.in-Err-Failed.field-0-is in record {
       unsound = λ sound. c.write_lines.ensures.sound sound failed;
@@ -46,32 +32,24 @@ returns-in-Err-Failed-clause-leaves g c =
       cut = record {
         told = made.told;
         text = concat made.lines;
-        answered = answered_of request held old new c.files.result.now c.files.ensures texts c.in-Ok.ensures.contents made.told (concat made.lines) c.in-Ok-answer_contents.ensures.ok;
+        answered = answered_of c.args.request.now c.files.result.now c.files.ensures (g.H.Shelf.held c.args.shelf.now) _ c.in-Ok.ensures.contents made.told (concat made.lines) c.in-Ok-answer_contents.ensures.ok;
         written = c.in-Err-Failed.ensures.err;
       };
     }
 
 pub returns-in-Ok-answer_contents-clause-err : goal.returns-in-Ok-answer_contents-clause-err
 returns-in-Ok-answer_contents-clause-err g c =
-    let request = c.args.request.now in
-    let held = g.H.Shelf.held c.args.shelf.now in
-    let old = g.H.Shelf.asked c.args.shelf.now in
-    let new = g.H.Shelf.asked c.read_files.new.shelf in
-    served_memory (Some request) held old new (asked_of request held old new c.files.result.now c.files.ensures c.in-Ok.ensures.asked)
+    served_memory (Some c.args.request.now) (shelf_change g.H.Shelf c.args.shelf.now c.read_files.new.shelf)
+    (asked_of c.args.request.now c.files.result.now c.files.ensures _ _ c.in-Ok.ensures.asked)
 
 pub returns-in-Ok-answer_contents-clause-leaves : goal.returns-in-Ok-answer_contents-clause-leaves
 returns-in-Ok-answer_contents-clause-leaves g c =
-    let texts : List (List ℕ) = map (λ (bytes : Vec ℕ Global). bytes.items) c.in-Ok.contents in
-    let request = c.args.request.now in
-    let held = g.H.Shelf.held c.args.shelf.now in
-    let old = g.H.Shelf.asked c.args.shelf.now in
-    let new = g.H.Shelf.asked c.read_files.new.shelf in
     let made = c.in-Ok-answer_contents.made in
     let cut = c.write_lines.ensures.no_memory (c.in-Err-NoMemory.is ∙ ap Err c.in-Err-NoMemory.field-0-is) in
     inr (record {
       told = made.told;
       lines = made.lines;
-      answered = answered_of request held old new c.files.result.now c.files.ensures texts c.in-Ok.ensures.contents made.told (concat made.lines) c.in-Ok-answer_contents.ensures.ok;
+      answered = answered_of c.args.request.now c.files.result.now c.files.ensures (g.H.Shelf.held c.args.shelf.now) _ c.in-Ok.ensures.contents made.told (concat made.lines) c.in-Ok-answer_contents.ensures.ok;
       whole = c.in-Ok-answer_contents.ensures.whole;
       count = cut.0;
       fewer = cut.1;

@@ -2,7 +2,7 @@ use Rattle.std.proofs.Common.{sym, subst}
 use Rattle.model_kit.specs.declared.atom.SchemaAtom.{SchemaAtom}
 use Rattle.model_kit.specs.Places.{Pre, Add, Del}
 use Rattle.model_kit.specs.Runs.{instance}
-use Rattle.feature_diff.specs.declared.schema_parts.Part.TheVariants as part
+use Rattle.feature_diff.specs.declared.schema_parts.SchemaPart.TheVariants as part
 use Rattle.named_tables.specs.Models.{Models}
 use Rattle.named_tables.specs.Tables.{AreCases}
 use Rattle.pair_rules.specs.Ruled.{models_of}
