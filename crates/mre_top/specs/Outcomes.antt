@@ -1,6 +1,6 @@
 -- What a status by itself says: which refusals have it, which status is due, and what was asked of
 -- the shelf.
-use Rattle.std.specs.Prelude.{◌≡◌, ◌⊎◌, ◌≤◌, ◌+◌, ℕ, List, take, length}
+use Rattle.std.specs.Prelude.{◌≡◌, ◌⊎◌, ◌≤◌, ◌+◌, ℕ, take, length}
 use Rattle.mre_top.specs.declared.refusal.Refusal.{Refusal}
 use Rattle.mre_top.specs.declared.refusal.Refusal.TheVariants.{TooLong, Stopped}
 use Rattle.mre_words.specs.Requests.{names_in}
