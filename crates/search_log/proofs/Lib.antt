@@ -1,0 +1,4 @@
+pub mod ClosureLemmas
+pub mod DueLemmas
+pub mod LeanLemmas
+pub mod LogLemmas
