@@ -1,12 +1,12 @@
+//! Calls of the top call over a shelf and sinks in memory.
 use crate::failing::{Failing, NONE_FAILS};
-use crate::telling::{ended, ended_and_asked};
+use crate::printing::{ended, ended_and_asked};
 use mre_base::{List, NoMemory, Text};
 use mre_outside::{MemoryShelf, MemorySink};
 use mre_top::{Outcome, explain_top};
 use std::alloc::Global;
 
-/// What a call leaves: how it ended, what was asked of the shelf, and what was written on both
-/// sinks.
+/// A call that has ended: its outcome, the shelf, and the two sinks.
 pub struct Left {
     pub outcome: Outcome,
     pub files: MemoryShelf,
@@ -25,14 +25,14 @@ impl Drop for Left {
     }
 }
 
-// A list of one number.
+// The list of one number.
 fn only(alloc: Global, number: u32) -> Result<List<u32>, NoMemory> {
     let mut numbers = List::empty(alloc);
     numbers.push(number)?;
     Ok(numbers)
 }
 
-// A shelf with the five contents, of which the read with this number fails.
+// A shelf with the five contents, on which the read with this number fails.
 fn shelf(alloc: Global, texts: [&str; 5], failing: u32) -> Result<MemoryShelf, NoMemory> {
     let [pd, pp, ud, up, plan] = texts;
     let mut files = List::empty(alloc);
@@ -44,7 +44,7 @@ fn shelf(alloc: Global, texts: [&str; 5], failing: u32) -> Result<MemoryShelf, N
     Ok(MemoryShelf::new(alloc, files, only(alloc, failing)?))
 }
 
-// A sink, of which the write with this number fails.
+// A sink, on which the write with this number fails.
 fn sink(alloc: Global, failing: u32) -> Result<MemorySink, NoMemory> {
     Ok(MemorySink::new(alloc, only(alloc, failing)?))
 }
@@ -58,7 +58,7 @@ fn words_of(alloc: Global, line: &str) -> Result<Vec<String>, NoMemory> {
     Ok(words)
 }
 
-// What a call with the words of a line leaves, over these contents.
+// The call with the words of a line over these contents.
 fn left_by(
     alloc: Global,
     line: &str,
@@ -68,7 +68,7 @@ fn left_by(
     let words = words_of(alloc, line)?;
     let mut files = shelf(alloc, texts, failing.read)?;
     let mut out = sink(alloc, failing.answer)?;
-    let mut faults = sink(alloc, failing.fault)?;
+    let mut faults = sink(alloc, failing.refusal)?;
     let outcome = explain_top(alloc, words.as_slice(), &mut files, &mut out, &mut faults);
     Ok(Left {
         outcome,
@@ -78,7 +78,7 @@ fn left_by(
     })
 }
 
-/// How a call over these contents ends, and where it is said what fails, also what it asks of the
+/// How a call over these contents ends; and if the case says what fails, also what it asks of the
 /// shelf.
 pub fn call(
     alloc: Global,

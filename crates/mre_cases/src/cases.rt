@@ -1,18 +1,19 @@
+//! The lines of the cases, and the state between them.
 use crate::calling::call;
 use crate::failing::{Failing, failing_of};
 use crate::repeating::push_line;
 use mre_base::NoMemory;
 use std::alloc::Global;
 
-/// A text under its name.
+/// A text and its name.
 #[derive(Drop)]
 struct Named {
     name: String,
     text: String,
 }
 
-/// What the lines up to now have said: the texts, the one that isn't ended yet, and of the next
-/// call its words and what fails in it.
+/// The lines so far: the texts, the text that isn't ended yet, and of the next call its words and
+/// what fails in it.
 #[derive(Drop)]
 pub struct Cases {
     texts: Vec<Named>,
@@ -31,7 +32,7 @@ impl Cases {
         }
     }
 
-    /// Takes one line, and gives what is to be printed.
+    /// Takes one line, and returns what is printed for it.
     pub fn take(&mut self, alloc: Global, line: &str) -> Result<String, NoMemory> {
         match self.open.take() {
             Some(open) => self.go_on(open, line)?,
@@ -66,11 +67,11 @@ impl Cases {
         Ok(())
     }
 
-    // A line outside of texts: what a call is over, what fails in it, or its words.
+    // A line outside of texts: the names of a call's texts, what fails in it, or its words.
     fn say(&mut self, alloc: Global, line: &str) -> Result<String, NoMemory> {
         if let Some(names) = line.strip_prefix("over ") {
             let failing = self.failing.take();
-            return self.told(alloc, names, failing);
+            return self.ended(alloc, names, failing);
         }
         match failing_of(line) {
             Some(failing) => self.failing = Some(failing),
@@ -80,7 +81,7 @@ impl Cases {
     }
 
     // The call over the texts with these names, and how it ends.
-    fn told(
+    fn ended(
         &self,
         alloc: Global,
         names: &str,
@@ -91,8 +92,8 @@ impl Cases {
         let Some(numbers) = failing else {
             return Ok(format!(in alloc; "{words} over {names}\n{ended}")?);
         };
-        let (read, answer, fault) = (numbers.read, numbers.answer, numbers.fault);
-        Ok(format!(in alloc; "{words} over {names} failing {read} {answer} {fault}\n{ended}")?)
+        let (read, answer, refusal) = (numbers.read, numbers.answer, numbers.refusal);
+        Ok(format!(in alloc; "{words} over {names} failing {read} {answer} {refusal}\n{ended}")?)
     }
 
     // The texts with these names.

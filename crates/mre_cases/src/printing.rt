@@ -1,10 +1,11 @@
+//! How a call ended, as lines.
 use crate::calling::Left;
 use mre_base::NoMemory;
 use mre_outside::{Act, ShelfCall};
 use mre_top::Outcome;
 use std::alloc::Global;
 
-// The status, and how many differences the answer tells.
+// The status, and the number of told differences.
 fn status_line(alloc: Global, outcome: &Outcome) -> Result<String, NoMemory> {
     let status = outcome.status;
     match &outcome.answer {
@@ -16,7 +17,7 @@ fn status_line(alloc: Global, outcome: &Outcome) -> Result<String, NoMemory> {
     }
 }
 
-// Each line behind a mark, and whether the last one is cut.
+// Adds the lines, each after a mark, and whether the last one is cut.
 fn push_lines(text: &mut String, mark: &str, written: &[u8]) -> Result<(), NoMemory> {
     let Ok(lines) = std::str::from_utf8(written) else {
         text.push_str("bytes that are no text\n")?;
@@ -31,7 +32,7 @@ fn push_lines(text: &mut String, mark: &str, written: &[u8]) -> Result<(), NoMem
     Ok(())
 }
 
-// The names that were asked for, each with what is unlike a read that gave its content.
+// Adds the names that were asked for, each with whether it was put and whether the call failed.
 fn push_asked(text: &mut String, calls: &[ShelfCall]) -> Result<(), NoMemory> {
     text.push_str("asked")?;
     for call in calls {
@@ -47,9 +48,8 @@ fn push_asked(text: &mut String, calls: &[ShelfCall]) -> Result<(), NoMemory> {
     Ok(())
 }
 
-/// How a call ended: its status and how many differences its answer tells, and then what it wrote
-/// on the sink of answers and on the sink
-/// of faults.
+/// How a call ended: its status and the number of told differences, and what it wrote on the sinks
+/// of answers and of refusals.
 pub fn ended(alloc: Global, left: &Left) -> Result<String, NoMemory> {
     let mut text = status_line(alloc, &left.outcome)?;
     push_lines(&mut text, "  ", left.out.bytes())?;

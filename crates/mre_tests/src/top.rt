@@ -1,3 +1,4 @@
+//! The top call.
 mod making;
 mod reads;
 mod requests;

@@ -1,3 +1,4 @@
+//! What the tests are made of.
 use mre_base::{List, Text};
 use mre_outside::MemoryShelf;
 use std::alloc::Global;

@@ -1,3 +1,4 @@
+//! Files that are past their limit.
 use super::making::{shelf, words};
 use mre_base::List;
 use mre_outside::{MemoryShelf, MemorySink, SoundSink};
@@ -6,7 +7,7 @@ use std::alloc::Global;
 use std::process::Abort;
 use std::test::Fail;
 
-/// A text of so many bytes that it has one more than a file may have.
+/// A text with one byte more than a file may have.
 fn too_long(alloc: Global) -> Result<String, Fail> {
     let mut text = String::from_str(alloc, " ")?;
     for _ in 0..22 {
@@ -17,22 +18,22 @@ fn too_long(alloc: Global) -> Result<String, Fail> {
     Ok(text)
 }
 
-/// A call over these files ends with status 7 and prints nothing, and behind it this stands on the
-/// sink of faults.
+/// A call over these files ends with status 7 and prints nothing, and after it the sink of refusals
+/// holds this report.
 fn assert_past_limit(
     rt: &impl Abort,
     alloc: Global,
     files: &mut MemoryShelf,
     faults: &mut MemorySink,
-    told: &str,
+    report: &str,
 ) -> Result<(), Fail> {
     let words = words(alloc, "explain mce pd pp ud up plan")?;
     let mut out = SoundSink::new(alloc);
     let outcome = explain_top(alloc, words.as_slice(), files, &mut out, faults);
-    assert_eq!(rt; outcome.status, 7, "{told}");
-    assert!(rt; outcome.answer.is_none(), "{told}");
-    assert!(rt; out.bytes().is_empty(), "{told}");
-    assert_eq!(rt; faults.bytes(), told.as_bytes());
+    assert_eq!(rt; outcome.status, 7, "{report}");
+    assert!(rt; outcome.answer.is_none(), "{report}");
+    assert!(rt; out.bytes().is_empty(), "{report}");
+    assert_eq!(rt; faults.bytes(), report.as_bytes());
     Ok(())
 }
 
@@ -58,11 +59,11 @@ fn a_file_past_its_limit_and_a_line_that_is_not_written(rt: HostRuntime) -> Resu
     let mut numbers = List::empty(rt.alloc());
     numbers.push(1)?;
     let mut faults = MemorySink::new(rt.alloc(), numbers);
-    for told in [
+    for report in [
         "mre: bytes of pd 41",
         "mre: bytes of pd 41mre: bytes of pd 4194305 limit 4194304\n",
     ] {
-        assert_past_limit(&rt, rt.alloc(), &mut files, &mut faults, told)?;
+        assert_past_limit(&rt, rt.alloc(), &mut files, &mut faults, report)?;
     }
     Ok(())
 }

@@ -1,10 +1,11 @@
+//! The requests that words make.
 use super::making::words;
 use mre_top::{Request, WordsStop, read_words};
 use std::alloc::Global;
 use std::process::Abort;
 use std::test::Fail;
 
-/// The words, what they ask for, and how many files it is about.
+/// The words, what they ask for, and the number of files that it is about.
 type Asked = (&'static str, &'static str, usize);
 
 const ASKED: [Asked; 28] = [
