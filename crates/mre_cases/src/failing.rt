@@ -1,6 +1,6 @@
 //! What fails in a case.
-/// The read of the shelf, the write on the sink of answers and the write on the sink of refusals that
-/// fail, each counted from 1, or 0 if none fails.
+/// The read of the shelf, the write on the sink of answers and the write on the sink of refusals
+/// that fail, each counted from 1, or 0 if none fails.
 #[derive(Clone, Copy)]
 pub struct Failing {
     pub read: u32,

@@ -7,15 +7,15 @@
 //! and AFTER. If a name has several texts, the last one before the case counts; a name without a
 //! text, such as `nothing`, has an empty content.
 //!
-//! Between the two lines there may be a third, `failing READ ANSWER REFUSAL`: the read of the shelf,
-//! the write on the sink of answers and the write on the sink of refusals that fail, each counted
-//! from 1, or 0 if none fails. In other cases nothing fails.
+//! Between the two lines there may be a third, `failing READ ANSWER REFUSAL`: the read of the
+//! shelf, the write on the sink of answers and the write on the sink of refusals that fail, each
+//! counted from 1, or 0 if none fails. In other cases nothing fails.
 //!
 //! For each case the program prints the case, the status and the number of told differences, the
 //! lines on the sink of answers, and the lines on the sink of refusals, each after `!`; `cut` comes
 //! after a last line that has no line feed. If a line `failing` says what fails, the case ends with
-//! `asked` and the names that were asked of the shelf, in order, each with `(failed)` after it if the
-//! call failed, and with `(put)` if it wasn't a read.
+//! `asked` and the names that were asked of the shelf, in order, each with `(failed)` after it if
+//! the call failed, and with `(put)` if it wasn't a read.
 #![tactic(auto)]
 
 mod calling;
