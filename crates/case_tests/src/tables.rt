@@ -1,9 +1,9 @@
 //! Tests of case tables.
 
-ghost use Rattle.std.specs.Prelude.{◌≡◌, ◌≤◌, IsTrue, IfOk};
-ghost use Rattle.case_kit.specs.Sound.{is_apart};
+ghost use Rattle.std.specs.Prelude.{◌≡◌, ◌≤◌, IfOk};
 ghost use Rattle.cube_kit.specs.Cubes.{IsCube};
 
+use crate::cases::{always, left, number, told};
 use crate::making::{GivenAction, Size, table_of};
 use case_kit::{
     Case, CaseCost, CaseTable, CaseValue, When, law_child, law_lists, law_members, law_relaxed,
@@ -15,33 +15,6 @@ use std::alloc::Global;
 use std::process::Abort;
 use std::test::Fail;
 use task_kit::{Task, TaskView, cheapest_below};
-
-fn always(atom: u32) -> Case {
-    Case {
-        atom,
-        when: When::Always,
-    }
-}
-
-fn told(atom: u32, place: u32) -> Case {
-    Case {
-        atom,
-        when: When::IfTold(place),
-    }
-}
-
-fn left(atom: u32, place: u32) -> Case {
-    Case {
-        atom,
-        when: When::IfLeft(place),
-    }
-}
-
-fn number(cost: u32) -> CaseCost
-    ensures { IsTrue (is_apart result) }
-{
-    CaseCost::One(CaseValue::One(Some(cost)))
-}
 
 // N. Atoms: 0 (at a), 1 (at b), 2 (at c), 3 (link a b), 4 (link b c). Actions: 0 (go a b), 1 (go b
 // c), 2 (ride). The cost of go differs: 4 where it is left, and the road where it is told; the road

@@ -1,0 +1,4 @@
+pub mod Changed
+pub mod Models
+pub mod Rows
+pub mod Touched
