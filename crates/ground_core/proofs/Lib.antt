@@ -1,3 +1,4 @@
 pub mod GroundLemmas
 pub mod NameLemmas
 pub mod OrderLemmas
+pub mod RunLemmas
