@@ -7,8 +7,9 @@ ghost use Rattle.model_kit.specs.Names.{is_first_byte, is_later_byte, is_name as
 ghost use Rattle.model_kit.specs.Types.{parent as parent_of, is_of_type as type_below};
 ghost use Rattle.model_kit.specs.Vocabulary.{is_object_of as object_below};
 ghost use Rattle.model_kit.specs.Vocabulary.{is_term_of as term_below, fits_signature};
+ghost use Rattle.model_kit.specs.Vocabulary.{is_ground_action as is_ground_action_of};
 
-use crate::{Signature, Term, Vocabulary};
+use crate::{GroundAction, Signature, Term, Vocabulary};
 use mre_base::{List, Text};
 
 // Whether bytes are a name in lower case.
@@ -95,6 +96,14 @@ fn is_term_of(words: &Vocabulary, params: &List<u32>, term: Term, above: u32) ->
         }
         Term::Object(object) => is_object_of(words, object, above),
     }
+}
+
+/// Whether an action is a ground action of a vocabulary: its schema is listed, and its objects are
+/// as many as the schema's parameters and of their types.
+pub fn is_ground_action(words: &Vocabulary, action: &GroundAction) -> bool
+    ensures { result ≡ is_ground_action_of words.now action.now }
+{
+    do_objects_fit(words, &words.actions, action.schema, &action.objects)
 }
 
 // Whether objects fit the signature with a number.

@@ -18,7 +18,7 @@ mod vocabulary;
 pub use action::{GroundAction, Plan};
 pub use atom::{GroundAtom, SchemaAtom, Term};
 pub use checking::are_same_terms;
-pub use fitting::is_object_of;
+pub use fitting::{is_ground_action, is_object_of};
 pub use judging::{NamedJudgement, judge_names};
 pub use laws::{law_mce, law_mme, law_order};
 pub use model::{CostExpr, Model, Schema};

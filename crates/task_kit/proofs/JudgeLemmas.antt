@@ -49,15 +49,15 @@ module _ (task : TaskMeaning) where
     pub applied : DoApply task task.start (take count list)
     pub reached : state ≡ as_bits task (state_after task task.start (take count list))
     pub costs : cost ≡ cost_of task (take count list)
-    pub low : cost ≤ count * 2 ^ 32
+    pub low : cost ≤ count * 4294967295
 
   pub walked_none : (list : List ℕ) (state : BitSet) → state ≡ as_bits task task.start → IsWalked list 0 state 0
   walked_none list state e = record { applied = tt; reached = e; costs = refl; low = omega arith }
 
-  pub fits_more : (count cost price length : ℕ) → cost ≤ count * 2 ^ 32 → price < 2 ^ 32 → count < length → length < 2 ^ 32 → Fits w64 (cost + price)
+  pub fits_more : (count cost price length : ℕ) → cost ≤ count * 4294967295 → price < 2 ^ 32 → count < length → length < 2 ^ 32 → Fits w64 (cost + price)
   fits_more count cost price length low small lt few = omega arith
 
-  low_more : (count cost price new : ℕ) → cost ≤ count * 2 ^ 32 → price < 2 ^ 32 → new ≡ cost + price → new ≤ (count + 1) * 2 ^ 32
+  low_more : (count cost price new : ℕ) → cost ≤ count * 4294967295 → price < 2 ^ 32 → new ≡ cost + price → new ≤ (count + 1) * 4294967295
   low_more count cost price new low small is = omega arith
 
   pub walked_more : (list : List ℕ) (count : ℕ) (state next : BitSet) (cost new : ℕ) → count < length list → applies task (get_or list count 0) state.members ≡ true

@@ -1,6 +1,6 @@
 -- The judgement of a list of actions on a task: that the list is valid and its cost, or the first
 -- place where it fails.
-use Rattle.std.specs.Prelude.{ℕ, ◌+◌, ◌≡◌, Bool, true, false, List, [], ◌∷◌, take, Option, Some}
+use Rattle.std.specs.Prelude.{ℕ, ◌+◌, ◌≡◌, ◌≤◌, Bool, true, false, List, [], ◌∷◌, take, Option, Some}
 use Rattle.std.specs.Prelude.{None, slice_get}
 use Rattle.std.specs.FinSet as set
 use Rattle.task_kit.specs.declared.judging.Judgement.{Judgement}
@@ -57,6 +57,13 @@ says_valid (judgements.Valid cost) = true
 says_valid (judgements.Fails step atom) = false
 says_valid (judgements.NoCost step) = false
 says_valid (judgements.GoalMissing atom) = false
+
+-- if the list is valid, it costs no more than this
+abbrev pub CostsAtMost : ℕ → Judgement → Type 0
+CostsAtMost most (judgements.Valid cost) = cost ≤ most
+CostsAtMost most (judgements.Fails step atom) = Unit {0}
+CostsAtMost most (judgements.NoCost step) = Unit {0}
+CostsAtMost most (judgements.GoalMissing atom) = Unit {0}
 
 -- why a step, counted from 1, can't be made by an action in a state, or None if the action applies
 -- there

@@ -1,7 +1,7 @@
 //! Judging a list of actions on a task.
 
-ghost use Rattle.std.specs.Prelude.{◌≡◌, ◌+◌, ◌^◌, ◌<◌, ◌↔◌, IsTrue, All, length};
-ghost use Rattle.task_kit.specs.Judged.{IsJudged, IsStepFault, says_valid};
+ghost use Rattle.std.specs.Prelude.{◌≡◌, ◌+◌, ◌*◌, ◌^◌, ◌<◌, ◌↔◌, IsTrue, All, length};
+ghost use Rattle.task_kit.specs.Judged.{IsJudged, IsStepFault, says_valid, CostsAtMost};
 ghost use Rattle.task_kit.specs.Tasks.{IsValid, IsFirstLack};
 
 use crate::price::price_of;
@@ -51,7 +51,8 @@ fn fault_at<T: TaskView>(task: &T, action: u32, state: &Bits, step: u32) -> Opti
 }
 
 /// Judges a list of actions: whether they apply one after another from the start and lead to the
-/// goal. The two sets are room for the states in between.
+/// goal. A valid list costs at most 4294967295 for each action. The two sets are room for the states
+/// in between.
 pub fn judge<T: TaskView>(task: &T, plan: &[u32], one: &mut Bits, two: &mut Bits) -> Judgement
     requires listed { All (λ action. action < length (T.seen task.now).actions) plan.now }
     requires few { length plan.now < 2 ^ 32 }
@@ -59,6 +60,7 @@ pub fn judge<T: TaskView>(task: &T, plan: &[u32], one: &mut Bits, two: &mut Bits
     requires two { two.old.width ≡ (T.seen task.now).atoms + 1 }
     ensures judged { IsJudged (T.seen task.now) plan.now result }
     ensures valid { IsTrue (says_valid result) ↔ IsValid (T.seen task.now) plan.now }
+    ensures cost { CostsAtMost (length plan.now * 4294967295) result }
     ensures one { one.new.width ≡ one.old.width }
     ensures two { two.new.width ≡ two.old.width }
 {
