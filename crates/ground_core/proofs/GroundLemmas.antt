@@ -1,6 +1,6 @@
 -- What reachability says of two models, and that no more atoms and actions are reachable than a table lists.
 use Rattle.std.proofs.Common.{◌≡◌, ◌≢◌, ℕ, zero, suc, ◌≤◌, ◌<◌, Some, List, [], ◌∷◌, length, ◌∙◌, inl, inr, refl, sym, ap, subst, arith}
-use Rattle.std.specs.Prelude.{◌↔◌, All, AllPairs, Contains, IsTrue, IfErr, Result, Ok, Err, slice_get}
+use Rattle.std.specs.Prelude.{◌↔◌, ◌⊎◌, All, AllPairs, Contains, IsTrue, IfErr, Result, Ok, Err, slice_get}
 use Rattle.std.specs.Result.{IsErrAnd}
 use Rattle.std.proofs.lemmas.List.Elements.{All-weaker, All-contains, All-contains_itself}
 use Rattle.std.proofs.lemmas.Option.{slice_get-get_or}
@@ -15,7 +15,9 @@ use Rattle.reach_kit.specs.declared.world.Limits.{Limits}
 use Rattle.reach_kit.specs.declared.world.ReachStop.{ReachStop}
 use Rattle.reach_kit.specs.declared.world.ReachStop.TheVariants as stops
 use Rattle.reach_kit.specs.Relaxed as rules
+use Rattle.model_kit.specs.Places.{Place, meaning}
 use Rattle.feature_diff.specs.declared.difference.Difference.{Difference}
+use Rattle.feature_diff.specs.Differing.{places_of}
 use Rattle.feature_diff.specs.declared.facts.FactKind.TheVariants.{Init}
 use Rattle.feature_diff.specs.declared.schema_parts.SchemaPart.TheVariants.{Add}
 use Rattle.named_tables.specs.Models.{Models}
@@ -112,6 +114,17 @@ module _ (planner user : Model) (differences : List Difference) where
     | inl many ↦ few_have 4096 (λ atom. Reachable (models_of planner user differences) (Atom atom)) atoms few_atoms (λ atom reach. (lists.each_atom atom).1 reach) many
     | inr many ↦ few_have 50000 (λ action. Reachable (models_of planner user differences) (Action action)) actions few_actions (λ action reach. (lists.each_action action).1 reach) many
   ]
+
+  -- whether too much is reachable depends on the places of the differences alone
+  pub full_alike : (others : List Difference) → places_of differences ≡ places_of others → IsFull planner user differences → IsFull planner user others
+  full_alike others same full = subst IsFullAt same full
+    where
+      models_at : List Place → Models
+      models_at places = record { words = planner.words; planner = meaning planner; user = meaning user; places = places }
+
+      IsFullAt : List Place → Type 0
+      IsFullAt places =
+          rules.MoreThan 4096 (λ atom. Reachable (models_at places) (Atom atom)) ⊎ rules.MoreThan 50000 (λ action. Reachable (models_at places) (Action action))
 
   -- the limit that is passed by the rules is passed in the models
   pub exceeded : (world : World) (are : AreRulesOf (models_of planner user differences) world) (limits : Limits) → limits.atoms ≡ 4096 → limits.actions ≡ 50000 → (stop : ReachStop) → rules.Exceeds world limits stop → Exceeds planner user differences (stop_of stop)

@@ -19,7 +19,7 @@ use Rattle.model_kit.specs.Printed.{action_form}
 use Rattle.model_kit.specs.Vocabulary.{IsGroundAction}
 use Rattle.named_tables.specs.Numbered.{AreNumbersOf}
 use Rattle.ground_core.specs.ActionForms.{action_form-injective}
-use Rattle.ground_core.specs.Names.{AreNamed, AreListed, IsUnlisted}
+use Rattle.ground_core.specs.Names.{AreNamed, IsListed, AreListed, IsUnlisted}
 use Rattle.ground_core.proofs.OrderLemmas.{text_cmp, tie_same, same_tie}
 use Rattle.mre_base.proofs.Listed.{item_contained}
 
@@ -75,7 +75,7 @@ module _ (words : Vocabulary) (names : List (List ℕ)) where
   named_more (n ∷ numbers) [] number step are is = absurd (are)
 
   pub not_unlisted : (steps : List GroundAction) → AreListed words names steps → IsUnlisted words names steps → ⊥
-  not_unlisted steps listed (step, among, unlisted) = unlisted (All-contains (λ s. Contains names (action_form words s)) steps step listed among)
+  not_unlisted steps listed (step, among, unlisted) = unlisted (All-contains (IsListed words names) steps step listed among)
 
 -- numbers by names are numbers of actions
 pub numbers_by_names : (words : Vocabulary) (actions : List GroundAction) → All (IsGroundAction words) actions → (numbers : List ℕ) (plan : List GroundAction) → All (IsGroundAction words) plan

@@ -1,4 +1,5 @@
 pub mod ActionForms
+pub mod Full
 pub mod Grounds
 pub mod Laws
 pub mod Names

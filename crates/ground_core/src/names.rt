@@ -1,12 +1,10 @@
 //! The printed forms of listed atoms and ground actions, and the numbers of plans.
 
-ghost use Rattle.std.specs.Prelude.{◌≡◌, ◌<◌, length, slice_get, Some, Contains, MatchOption, All};
-ghost use Rattle.std.specs.Prelude.{IsTrue, IfOk};
-ghost use Rattle.model_kit.specs.Printed.{action_form};
-ghost use Rattle.model_kit.specs.Vocabulary.{IsGroundAction};
+ghost use Rattle.std.specs.Prelude.{◌≡◌, ◌<◌, length, slice_get, Some, Contains, MatchOption, IfOk};
 ghost use Rattle.ground_core.specs.Names.{AreNames, AreNamed, IsUnlisted, AreListed};
+ghost use Rattle.ground_core.specs.Names.{AreFound, IsPlaceOf};
 
-use model_kit::{Plan, Vocabulary, print_action};
+use model_kit::{GroundAction, Plan, Vocabulary, is_ground_action, print_action};
 use mre_base::{List, NoMemory, Text};
 use std::alloc::Global;
 
@@ -69,22 +67,37 @@ impl NameTable {
         }
     }
 
-    /// The numbers of a plan's steps, or none exactly where a step isn't listed.
+    // The number of a step, or none exactly where it is no ground action or isn't listed.
+    fn find_step(
+        &self,
+        alloc: Global,
+        words: &Vocabulary,
+        step: &GroundAction,
+    ) -> Result<Option<u32>, NoMemory>
+        ensures ok { IfOk result (IsPlaceOf words.now self.now.actions.items step.now) }
+    {
+        if !is_ground_action(words, step) {
+            return Ok(None);
+        }
+        let name = print_action(alloc, words, step)?;
+        Ok(self.find_action(&name))
+    }
+
+    /// The numbers of a plan's steps, or none exactly where a step is no ground action of the
+    /// vocabulary or isn't listed.
     pub fn find_plan(
         &self,
         alloc: Global,
         words: &Vocabulary,
         plan: &Plan,
     ) -> Result<Option<List<u32>>, NoMemory>
-        requires fits { All (IsGroundAction words.now) plan.now.steps }
         ensures ok { IfOk result (λ found. MatchOption found
             (IsUnlisted words.now self.now.actions.items plan.now.steps)
-            (λ numbers. AreNamed words.now self.now.actions.items numbers plan.now.steps)) }
+            (AreFound words.now self.now.actions.items plan.now.steps)) }
     {
         let mut numbers = List::empty(alloc);
         for place in 0..plan.steps.len() {
-            let name = print_action(alloc, words, plan.steps.item(place))?;
-            match self.find_action(&name) {
+            match self.find_step(alloc, words, plan.steps.item(place))? {
                 Some(number) => numbers.push(number)?,
                 None => return Ok(None),
             }
@@ -99,7 +112,6 @@ impl NameTable {
         words: &Vocabulary,
         plan: &Plan,
     ) -> Result<List<u32>, NoMemory>
-        requires fits { All (IsGroundAction words.now) plan.now.steps }
         requires listed { AreListed words.now self.now.actions.items plan.now.steps }
         ensures ok { IfOk result (λ numbers. AreNamed words.now self.now.actions.items numbers
             plan.now.steps) }
