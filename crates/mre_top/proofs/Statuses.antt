@@ -3,7 +3,7 @@ use Rattle.std.proofs.Common.{◌≡◌, ◌⊎◌, ℕ, ◌≤◌, List, arith,
 use Rattle.joint_models.specs.declared.stop.PairFault.{PairFault}
 use Rattle.request_answers.specs.declared.stop.PlanFault.{PlanFault}
 use Rattle.request_answers.specs.declared.stop.AnswerStop.{AnswerStop}
-use Rattle.request_answers.specs.declared.stop.AnswerStop.TheVariants.{Misread, Disagree, TooManyParameters, TooManyObjects, TooManyDifferences, TooManySteps, NotValid, Unbuilt, NotCheapest}
+use Rattle.request_answers.specs.declared.stop.AnswerStop.TheVariants.{Misread, Disagree, TooManyParameters, TooManyObjects, TooManyDifferences, TooManySteps, TooManyActions, TooManyAtoms, NotValid, Unbuilt, NotCheapest}
 use Rattle.request_answers.specs.Lines.{status_of as stop_status}
 use Rattle.mre_top.specs.declared.refusal.Refusal.{Refusal}
 use Rattle.mre_top.specs.declared.refusal.Refusal.TheVariants.{Usage, ReadFailed, WriteFailed, TooLong, Stopped}
@@ -47,7 +47,7 @@ module _ (call : Call) where
 
   pub misread : (refusal : Refusal) → status_of refusal ≡ 5 → EndsBy call refusal → (stop : AnswerStop) × IsOfText stop × EndsBy call (Stopped stop)
   misread (Stopped (Misread file fault)) e ends = (Misread file fault, tt, ends)
-  misread (Stopped (Unbuilt file)) e ends = (Unbuilt file, tt, ends)
+  misread (Stopped Unbuilt) e ends = (Unbuilt, tt, ends)
   misread refusal e ends = absurd (omega (arith, e))
 
   pub disagree : (refusal : Refusal) → status_of refusal ≡ 6 → EndsBy call refusal → (fault : PairFault) × EndsBy call (Stopped (Disagree fault))
@@ -60,6 +60,8 @@ module _ (call : Call) where
   past_limit (Stopped (TooManyObjects found)) e ends = (Stopped (TooManyObjects found), tt, ends)
   past_limit (Stopped (TooManyDifferences found)) e ends = (Stopped (TooManyDifferences found), tt, ends)
   past_limit (Stopped (TooManySteps found)) e ends = (Stopped (TooManySteps found), tt, ends)
+  past_limit (Stopped TooManyActions) e ends = (Stopped TooManyActions, tt, ends)
+  past_limit (Stopped TooManyAtoms) e ends = (Stopped TooManyAtoms, tt, ends)
   past_limit refusal e ends = absurd (omega (arith, e))
 
   pub not_valid : (refusal : Refusal) → status_of refusal ≡ 10 → EndsBy call refusal → (fault : PlanFault) × EndsBy call (Stopped (NotValid fault))

@@ -10,13 +10,15 @@ use Rattle.request_answers.specs.declared.stop.AnswerStop.TheVariants.{TooManyPa
 use Rattle.request_answers.specs.declared.stop.AnswerStop.TheVariants.{TooManyObjects}
 use Rattle.request_answers.specs.declared.stop.AnswerStop.TheVariants.{TooManyDifferences}
 use Rattle.request_answers.specs.declared.stop.AnswerStop.TheVariants.{TooManySteps}
+use Rattle.request_answers.specs.declared.stop.AnswerStop.TheVariants.{TooManyActions}
+use Rattle.request_answers.specs.declared.stop.AnswerStop.TheVariants.{TooManyAtoms}
 use Rattle.mre_top.specs.Calls.{Call}
 use Rattle.mre_top.specs.Reads.{asked_then, reads, name_at, IsTooLong}
 
--- a text has a fault, or no explanation can be searched for yet
+-- a text has a fault, or there are too many differences to try every set of them
 abbrev pub IsOfText : AnswerStop → Type 0
 IsOfText (Misread file fault) = Unit {0}
-IsOfText (Unbuilt file) = Unit {0}
+IsOfText Unbuilt = Unit {0}
 IsOfText _ = ⊥
 
 -- a count of the contents is past its limit
@@ -25,6 +27,8 @@ IsOfCount (TooManyParameters found) = Unit {0}
 IsOfCount (TooManyObjects found) = Unit {0}
 IsOfCount (TooManyDifferences found) = Unit {0}
 IsOfCount (TooManySteps found) = Unit {0}
+IsOfCount TooManyActions = Unit {0}
+IsOfCount TooManyAtoms = Unit {0}
 IsOfCount _ = ⊥
 
 -- a count is past its limit: a file's bytes, or one of the contents

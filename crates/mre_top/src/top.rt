@@ -57,10 +57,10 @@ impl Drop for Outcome {
 }
 
 /// Does everything that the program does: takes its words, the shelf that holds the files, and two
-/// sinks, one for answers and one for refusals. An explanation of models with parameters or cost
-/// functions, with more than 64 predicates or actions, or with 17 to 256 differences can't be
-/// searched for yet: if nothing else is wrong with the files and the plan is valid, the call ends
-/// with status 5.
+/// sinks, one for answers and one for refusals. An explanation is searched for among all sets of
+/// the differences, of which there may be at most 16. With 17 to 256 the call ends with status 5,
+/// if nothing else is wrong with the files and the plan is cheapest in the planner's model. Nothing
+/// limits the number of states that a search goes through.
 pub fn explain_top<H: Shelf, S: Sink, E: Sink>(
     alloc: Global,
     words: &[String],

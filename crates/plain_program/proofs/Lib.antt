@@ -1,7 +1,3 @@
-pub mod AnswerLemmas
-pub mod DifferenceLemmas
-pub mod KeptLemmas
-pub mod ListFacts
-pub mod NumberLemmas
+pub mod BestLemmas
 pub mod RunLemmas
 pub mod SetLists

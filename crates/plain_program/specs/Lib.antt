@@ -1,5 +1,3 @@
 pub mod Answers
 pub mod Kept
-pub mod Numbered
 pub mod Subsets
-pub mod Tasks

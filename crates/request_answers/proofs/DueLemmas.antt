@@ -1,48 +1,35 @@
 -- The answer to a question is the answer to the request about the contents, and the contents are the cause of a stop on the way.
-use Rattle.std.proofs.Common.{◌≡◌, ℕ, ◌<◌, ◌≤◌, true, List, [], length, Option, None, Some, refl, sym, subst, inl, inr, arith}
-use Rattle.std.specs.Prelude.{IfNone, IfSome, IsTrue}
+use Rattle.std.proofs.Common.{◌≡◌, ℕ, ◌<◌, ◌≤◌, true, List, length, refl, sym, arith}
+use Rattle.std.specs.Prelude.{IsTrue}
 use Rattle.std.specs.Ordering.{nat_cmp}
 use Rattle.std.specs.FinSet as set
 use Rattle.std.proofs.lemmas.Bool.{true≢false}
 use Rattle.pddl_text.specs.declared.fault.TextFault.{TextFault}
+use Rattle.model_kit.specs.Places.{meaning}
 use Rattle.feature_diff.specs.declared.difference.Difference.{Difference}
+use Rattle.ground_core.specs.Grounds.{IsFull}
+use Rattle.mre_base.specs.declared.kind.Kind.{Kind}
 use Rattle.mre_words.specs.declared.request.Request.{Request}
 use Rattle.mre_words.specs.declared.request.Request.TheVariants.{Explain, Diff, Patch, PlanPatch}
 use Rattle.mre_words.specs.Requests.{count_of}
 use Rattle.request_answers.specs.declared.question.Question.{Question}
 use Rattle.request_answers.specs.declared.stop.AnswerStop.{AnswerStop}
-use Rattle.request_answers.specs.declared.stop.AnswerStop.TheVariants.{Misread, Disagree, TooManyParameters, TooManyObjects, TooManyDifferences, TooManySteps, NotValid, Unbuilt, NotCheapest, NoMemory}
+use Rattle.request_answers.specs.declared.stop.AnswerStop.TheVariants.{Misread, Disagree, TooManyParameters, TooManyObjects, TooManyDifferences, TooManySteps, TooManyActions, TooManyAtoms, NotValid, Unbuilt, NotCheapest, NoMemory}
+use Rattle.request_answers.specs.declared.stop.PlanFault.{PlanFault}
 use Rattle.request_answers.specs.Lines.{IsOfFile}
 use Rattle.request_answers.specs.Counts.{AreWithinLimits}
 use Rattle.request_answers.specs.Texts.{IsMisread, IsMisreadModel, planner_domain, planner_problem, user_domain, user_problem, of_model, of_plan, has_plan}
-use Rattle.request_answers.specs.Questions.{AreCounted, AreServed, AreServedWords, AreUnservedWords, IsUnserved, of_words, of_differences}
-use Rattle.request_answers.specs.Questions as unserved
+use Rattle.request_answers.specs.Questions.{AreCounted, IsFault, IsToExplain, FitsTable}
 use Rattle.request_answers.specs.Posing.{IsQuestion}
-use Rattle.request_answers.specs.Steps.{IsOfQuestion, IsOfCounts, IsServedBy, IsUnservedBy, IsOfExplaining}
+use Rattle.request_answers.specs.Steps.{IsOfQuestion, IsOfCounts, IsOfPlan, IsOfGround, IsOfSearch, IsOfExplaining, full, searched}
 use Rattle.request_answers.specs.Making.{task_in, IsMadeOf, IsOfMaking, IsOfAnswering, counted, made}
 use Rattle.request_answers.specs.Outputs.{IsAnswer}
-use Rattle.request_answers.specs.Causes.{IsDue, IsToExplain}
-
-where_none : (o : Option ℕ) (P : Type 0) → o ≡ None → IfNone o P → P
-where_none o P e p = subst (λ v. IfNone v P) e p
-
-where_some : (o : Option ℕ) (P : ℕ → Type 0) (n : ℕ) → o ≡ Some n → IfSome o P → P n
-where_some o P n e p = subst (λ v. IfSome v P) e p
+use Rattle.request_answers.specs.Causes.{IsDue}
 
 module _ (request : Request) (contents : List (List ℕ)) (question : Question) (is : IsQuestion request contents question) where
   abbrev counted_of : (differences : List Difference) → AreWithinLimits question.pair.planner question.pair.user question.plan.steps differences
       → AreCounted request contents question.pair.planner question.pair.user question.plan.steps differences
   counted_of differences limits = record { pose = is.pose; limits = limits }
-
-  served_of : (count : ℕ) → IsServedBy question.unserved count → AreServed is.pose.planner_read.words is.pose.user_read.words count
-  served_of count by =
-      record { words = where_none question.unserved (AreServedWords is.pose.planner_read.words is.pose.user_read.words) by.0 is.served; few = by.1 }
-
-  unserved_of : (count file : ℕ) → IsUnservedBy question.unserved count file → IsUnserved is.pose.planner_read.words is.pose.user_read.words count file
-  unserved_of count file (inl first) =
-      of_words (where_some question.unserved (AreUnservedWords is.pose.planner_read.words is.pose.user_read.words) file first is.unserved)
-  unserved_of count file (inr many) =
-      of_differences (where_none question.unserved (AreServedWords is.pose.planner_read.words is.pose.user_read.words) many.0 is.served) many.1 many.2
 
   -- a count is past its limit
   pub due_counts : (stop : AnswerStop) → IsOfCounts question.pair.planner question.pair.user question.plan.steps stop → IsDue request contents stop
@@ -54,64 +41,94 @@ module _ (request : Request) (contents : List (List ℕ)) (question : Question) 
   due_counts _ of = absurd of
 
 -- the plan has a fault
-due_plan : (request : Request) (contents : List (List ℕ)) (question : Question) → IsQuestion request contents question → IsTrue (has_plan request) → (differences : List Difference)
-    → AreWithinLimits question.pair.planner question.pair.user question.plan.steps differences
-    → (stop : AnswerStop) → IsOfMaking (Patch []) question (length differences) stop → IsDue request contents stop
-due_plan request contents question is asked differences limits (NotValid fault) of = record {
+due_fault : (request : Request) (contents : List (List ℕ)) (question : Question) → IsQuestion request contents question → IsTrue (has_plan request) → (differences : List Difference)
+    → AreWithinLimits question.pair.planner question.pair.user question.plan.steps differences → FitsTable request question.pair.planner question.pair.user differences
+    → (fault : PlanFault) → IsFault question.pair.planner.words (meaning question.pair.planner) question.plan.steps fault → IsDue request contents (NotValid fault)
+due_fault request contents question is asked differences limits table fault of = record {
   planner = question.pair.planner;
   user = question.pair.user;
   plan = question.plan.steps;
   differences = differences;
   counted = counted_of request contents question is differences limits;
   planned = asked;
+  table = table;
   is = of;
 }
-due_plan request contents question is asked differences limits NoMemory of = tt
-due_plan request contents question is asked differences limits _ of = absurd of
 
-due_explaining : (request : Request) (contents : List (List ℕ)) (question : Question) → IsQuestion request contents question → IsTrue (has_plan request) → IsToExplain request
-    → (differences : List Difference) → AreWithinLimits question.pair.planner question.pair.user question.plan.steps differences
-    → (stop : AnswerStop) → IsOfExplaining question.pair.planner question.plan.steps question.unserved (length differences) stop → IsDue request contents stop
-due_explaining request contents question is asked toward differences limits (NotValid fault) of = record {
-  planner = question.pair.planner;
-  user = question.pair.user;
-  plan = question.plan.steps;
-  differences = differences;
-  counted = counted_of request contents question is differences limits;
-  planned = asked;
-  is = of;
-}
-due_explaining request contents question is asked toward differences limits (Unbuilt file) of = record {
-  planner = question.pair.planner;
-  user = question.pair.user;
-  plan = question.plan.steps;
-  differences = differences;
-  counted = counted_of request contents question is differences limits;
-  asked = toward;
-  valid = of.0;
-  unserved = unserved_of request contents question is (length differences) file of.1;
-}
-due_explaining request contents question is asked toward differences limits (NotCheapest cost other steps) of = record {
-  planner = question.pair.planner;
-  user = question.pair.user;
-  plan = question.plan.steps;
-  differences = differences;
-  counted = counted_of request contents question is differences limits;
-  asked = toward;
-  served = served_of request contents question is (length differences) of.0;
-  undercut = of.1;
-}
-due_explaining request contents question is asked toward differences limits NoMemory of = tt
-due_explaining request contents question is asked toward differences limits _ of = absurd of
+due_plan : (request : Request) (contents : List (List ℕ)) (question : Question) → IsQuestion request contents question → IsTrue (has_plan request) → (differences : List Difference)
+    → AreWithinLimits question.pair.planner question.pair.user question.plan.steps differences → FitsTable request question.pair.planner question.pair.user differences
+    → (stop : AnswerStop) → IsOfPlan question.pair.planner.words (meaning question.pair.planner) question.plan.steps stop → IsDue request contents stop
+due_plan request contents question is asked differences limits table (NotValid fault) of = due_fault request contents question is asked differences limits table fault of
+due_plan request contents question is asked differences limits table NoMemory of = tt
+due_plan request contents question is asked differences limits table _ of = absurd of
+
+-- ---- an explanation
+
+module _ (kind : Kind) (files : List (List ℕ)) (contents : List (List ℕ)) (question : Question) (is : IsQuestion (Explain kind files) contents question)
+    (differences : List Difference) (limits : AreWithinLimits question.pair.planner question.pair.user question.plan.steps differences) where
+  abbrev to_explain : Request
+  to_explain = Explain kind files
+
+  due_full : (stop : AnswerStop) → IsOfGround question.pair.planner question.pair.user differences stop → IsDue to_explain contents stop
+  due_full TooManyActions of = record {
+    planner = question.pair.planner;
+    user = question.pair.user;
+    plan = question.plan.steps;
+    differences = differences;
+    counted = counted_of to_explain contents question is differences limits;
+    asked = tt;
+    many = of;
+  }
+  due_full TooManyAtoms of = record {
+    planner = question.pair.planner;
+    user = question.pair.user;
+    plan = question.plan.steps;
+    differences = differences;
+    counted = counted_of to_explain contents question is differences limits;
+    asked = tt;
+    many = of;
+  }
+  due_full NoMemory of = tt
+  due_full _ of = absurd of
+
+  due_search : ¬ IsFull question.pair.planner question.pair.user differences → (stop : AnswerStop) → IsOfSearch question.pair.planner question.plan.steps (length differences) stop → IsDue to_explain contents stop
+  due_search table (NotValid fault) of = due_fault to_explain contents question is refl differences limits table fault of
+  due_search table (NotCheapest cost other steps) of = record {
+    planner = question.pair.planner;
+    user = question.pair.user;
+    plan = question.plan.steps;
+    differences = differences;
+    counted = counted_of to_explain contents question is differences limits;
+    asked = tt;
+    table = table;
+    undercut = of;
+  }
+  due_search table Unbuilt of = record {
+    planner = question.pair.planner;
+    user = question.pair.user;
+    plan = question.plan.steps;
+    differences = differences;
+    counted = counted_of to_explain contents question is differences limits;
+    asked = tt;
+    table = table;
+    cheapest = of.0;
+    many = of.1;
+  }
+  due_search table NoMemory of = tt
+  due_search table _ of = absurd of
+
+  due_explaining : (stop : AnswerStop) → IsOfExplaining question.pair.planner question.pair.user question.plan.steps differences stop → IsDue to_explain contents stop
+  due_explaining stop (full of) = due_full stop of
+  due_explaining stop (searched table of) = due_search table stop of
 
 due_making : (request : Request) (contents : List (List ℕ)) (question : Question) → IsQuestion request contents question → (differences : List Difference)
     → AreWithinLimits question.pair.planner question.pair.user question.plan.steps differences
-    → (stop : AnswerStop) → IsOfMaking request question (length differences) stop → IsDue request contents stop
-due_making (Explain kind files) contents question is differences limits stop of = due_explaining (Explain kind files) contents question is refl tt differences limits stop of
+    → (stop : AnswerStop) → IsOfMaking request question differences stop → IsDue request contents stop
+due_making (Explain kind files) contents question is differences limits stop of = due_explaining kind files contents question is differences limits stop of
 due_making (Diff files) contents question is differences limits NoMemory of = tt
 due_making (Diff files) contents question is differences limits _ of = absurd of
-due_making (Patch files) contents question is differences limits stop of = due_plan (Patch files) contents question is refl differences limits stop of
-due_making (PlanPatch files) contents question is differences limits stop of = due_plan (PlanPatch files) contents question is refl differences limits stop of
+due_making (Patch files) contents question is differences limits stop of = due_plan (Patch files) contents question is refl differences limits tt stop of
+due_making (PlanPatch files) contents question is differences limits stop of = due_plan (PlanPatch files) contents question is refl differences limits tt stop of
 
 pub due_answering : (request : Request) (contents : List (List ℕ)) (question : Question) → IsQuestion request contents question → (stop : AnswerStop)
     → IsOfAnswering request question stop → IsDue request contents stop
@@ -136,7 +153,8 @@ made_answer (Explain kind files) contents question is told text of =
         plan = question.plan.steps;
         differences = of.differences;
         counted = counted_of request contents question is of.differences of.limits;
-        served = served_of request contents question is (length of.differences) of.made.served;
+        table = of.made.table;
+        few = of.made.few;
         cheapest = of.made.cheapest;
         task_is = refl;
         first = of.made.first;
@@ -203,13 +221,5 @@ five_explained (PlanPatch files) is = absurd is
 
 pub due_file : (request : Request) (contents : List (List ℕ)) (stop : AnswerStop) → IsDue request contents stop → IsOfFile (count_of request) stop
 due_file request contents (Misread file fault) due = misread_file request contents fault file due
-due_file request contents (Unbuilt file) due = omega (arith, unserved_file file due.unserved, five_explained request due.asked)
-  where
-    unserved_file : (place : ℕ) → IsUnserved due.counted.pose.planner_read.words due.counted.pose.user_read.words (length due.differences) place → place < 5
-    unserved_file place (of_words out) = words_file place out
-      where
-        words_file : (at : ℕ) → AreUnservedWords due.counted.pose.planner_read.words due.counted.pose.user_read.words at → at < 5
-        words_file _ (unserved.planner_domain out_) = omega arith
-        words_file _ (unserved.user_domain in_ out_) = omega arith
-    unserved_file place (of_differences words many here) = omega arith
+due_file request contents Unbuilt due = omega (arith, five_explained request due.asked)
 due_file request contents _ due = tt

@@ -5,13 +5,12 @@ pub mod MostLemmas
 pub mod Once
 mod Printing
 mod Pushed
-mod Ready
 pub mod Ending
 pub mod OneEnd
-mod BareLemmas
 mod Misreading
 mod StopLemmas
 mod ListLemmas
 mod DueLemmas
 mod QuestionLemmas
 mod WholeLines
+mod Grounded

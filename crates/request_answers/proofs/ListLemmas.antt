@@ -15,9 +15,9 @@ use Rattle.feature_diff.specs.Differing.{place_of, places_of, Says}
 use Rattle.explain_text.specs.Laws.{AreOf, text_in}
 use Rattle.explain_text.specs.Lines.{list_lines}
 use Rattle.explain_text.proofs.LawLemmas.{list_holds}
-use Rattle.plain_program.specs.Tasks.{even_task}
 use Rattle.mre_words.specs.declared.request.Request.{Request}
 use Rattle.request_answers.specs.Outputs.{list_head, listing}
+use Rattle.request_answers.specs.Tasks.{even_task}
 
 joined : (lines : List (List ℕ)) → concat lines ≡ text_in lines
 joined [] = refl

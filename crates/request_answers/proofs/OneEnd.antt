@@ -1,21 +1,24 @@
 -- The contents of a request's files end with one status.
-use Rattle.std.proofs.Common.{◌≡◌, ◌⊎◌, ℕ, ◌≤◌, List, length, refl, sym, ◌∙◌, subst, inl, inr, arith}
-use Rattle.std.proofs.lemmas.Bool.{true≢false}
+use Rattle.std.proofs.Common.{◌≡◌, ◌⊎◌, ℕ, ◌≤◌, List, length, refl, sym, ap, ◌∙◌, subst, inl, inr, arith}
+use Rattle.std.proofs.lemmas.List.{length-map}
 use Rattle.model_kit.specs.declared.vocabulary.Vocabulary.{Vocabulary}
 use Rattle.model_kit.specs.declared.model.Model.{Model}
 use Rattle.model_kit.specs.declared.action.GroundAction.{GroundAction}
 use Rattle.model_kit.specs.declared.judging.NamedJudgement.TheVariants.{Valid, Fails, NoCost, GoalMissing}
-use Rattle.model_kit.specs.Places.{Meaning, meaning}
+use Rattle.model_kit.specs.Places.{Place, Meaning, meaning}
 use Rattle.model_kit.specs.Pairs.{Agree}
-use Rattle.model_kit.specs.Runs.{IsValid, IsCheapest, cost}
+use Rattle.model_kit.specs.Runs.{IsValid, cost}
 use Rattle.model_kit.proofs.JudgeLemmas.{judgement_once}
+use Rattle.feature_diff.specs.declared.difference.Difference.{Difference}
+use Rattle.feature_diff.specs.Differing.{place_of, places_of}
+use Rattle.ground_core.proofs.GroundLemmas.{full_alike}
 use Rattle.mre_words.specs.declared.request.Request.{Request}
 use Rattle.mre_words.specs.declared.request.Request.TheVariants.{Explain, Diff, Patch, PlanPatch}
 use Rattle.request_answers.specs.declared.stop.PlanFault.{PlanFault}
 use Rattle.request_answers.specs.declared.stop.PlanFault.TheVariants.{StepNeeds, StepHasNoCost, EndsWithout}
 use Rattle.request_answers.specs.Texts.{has_plan}
-use Rattle.request_answers.specs.Questions.{IsFault, IsUndercut, IsUnserved, AreServed, AreServedWords, AreUnservedWords, of_words, of_differences, planner_domain, user_domain}
-use Rattle.request_answers.specs.Ends.{AtPlan, AtSearch, AtQuestion, IsPast, IsLarge, AreDiffering, AreJoined, AreRead, EndsAt, misread, read}
+use Rattle.request_answers.specs.Questions.{IsFault, AreMany}
+use Rattle.request_answers.specs.Ends.{AtPlan, AtSearch, AtTable, AtQuestion, IsPast, IsLarge, AreFew, AreDiffering, AreJoined, AreRead, EndsAt, misread, read}
 use Rattle.request_answers.specs.Counts.{AreSmall}
 use Rattle.model_kit.proofs.OneDifferences.{same_differences}
 use Rattle.model_kit.proofs.SameParts.{paired_once}
@@ -36,40 +39,51 @@ plan_end_once planner plan k m One Two rest (inl one) (inr two) = absurd (not_bo
 plan_end_once planner plan k m One Two rest (inr one) (inl two) = absurd (not_both planner.words (meaning planner) plan two.1 one.0 two.2)
 plan_end_once planner plan k m One Two rest (inr one) (inr two) = rest one.1 two.1
 
--- served words aren't unserved
-served_words : (one two : Vocabulary) (file : ℕ) → AreServedWords one two → AreUnservedWords one two file → ⊥
-served_words one two _ are (planner_domain out) = true≢false (sym are.planner_domain ∙ out)
-served_words one two _ are (user_domain in_ out) = true≢false (sym are.user_domain ∙ out)
-
-pub served_once : (one two : Vocabulary) (count file : ℕ) → AreServed one two count → IsUnserved one two count file → ⊥
-served_once one two count file are (of_words out) = served_words one two file are.words out
-served_once one two count file are (of_differences in_ many here) = omega (arith, are.few)
-
-search_end_once : (one two : Vocabulary) (planner : Model) (plan : List GroundAction) (count k m : ℕ) → AtSearch one two planner plan count k → AtSearch one two planner plan count m → k ≡ m
-search_end_once one two planner plan count k m (inl a) (inl b) = a.0 ∙ sym b.0
-search_end_once one two planner plan count k m (inl a) (inr b) = absurd (served_once one two count a.1 b.0 a.2)
-search_end_once one two planner plan count k m (inr a) (inl b) = absurd (served_once one two count b.1 a.0 b.2)
-search_end_once one two planner plan count k m (inr a) (inr b) = last_once a.1 b.1
+search_end_once : (planner : Model) (plan : List GroundAction) (differences : List Difference) (k m : ℕ) → AtSearch planner plan differences k → AtSearch planner plan differences m → k ≡ m
+search_end_once planner plan differences k m (inl under) (inl too) = under.0 ∙ sym too.0
+search_end_once planner plan differences k m (inl under) (inr rest) =
+    let least = rest.0.least under.4.list under.4.fits under.4.cheapest.valid in absurd (omega (arith, least, under.4.less, under.4.costs_are, under.4.other_is))
+search_end_once planner plan differences k m (inr rest) (inl under) =
+    let least = rest.0.least under.4.list under.4.fits under.4.cheapest.valid in absurd (omega (arith, least, under.4.less, under.4.costs_are, under.4.other_is))
+search_end_once planner plan differences k m (inr one) (inr two) = last_once one.1 two.1
   where
     Last : ℕ → Type 0
-    Last status = ((status ≡ 11) × (costs other : ℕ) × (steps : List (List ℕ)) × IsUndercut planner.words (meaning planner) plan costs other steps)
-        ⊎ ((status ≡ 0) × IsCheapest planner.words (meaning planner) plan)
+    Last status = ((status ≡ 5) × AreMany differences) ⊎ ((status ≡ 0) × (length differences ≤ 16))
 
     last_once : Last k → Last m → k ≡ m
-    last_once (inl under) (inl too) = under.0 ∙ sym too.0
-    last_once (inl under) (inr cheapest) =
-        let least = cheapest.1.least under.4.list under.4.fits under.4.list_valid in absurd (omega (arith, least, under.4.less, under.4.costs_are, under.4.other_is))
-    last_once (inr cheapest) (inl under) =
-        let least = cheapest.1.least under.4.list under.4.fits under.4.list_valid in absurd (omega (arith, least, under.4.less, under.4.costs_are, under.4.other_is))
-    last_once (inr one_) (inr two_) = one_.0 ∙ sym two_.0
+    last_once (inl many) (inl too) = many.0 ∙ sym too.0
+    last_once (inl many) (inr few) = absurd (omega (arith, many.1, few.1))
+    last_once (inr few) (inl many) = absurd (omega (arith, many.1, few.1))
+    last_once (inr few) (inr too) = few.0 ∙ sym too.0
 
-question_end_once : (request : Request) (one two : Vocabulary) (planner : Model) (plan : List GroundAction) (count k m : ℕ)
-    → AtQuestion request one two planner plan count k → AtQuestion request one two planner plan count m → k ≡ m
-question_end_once (Explain kind files) one two planner plan count k m a b =
-    plan_end_once planner plan k m (AtSearch one two planner plan count k) (AtSearch one two planner plan count m) (search_end_once one two planner plan count k m) a b
-question_end_once (Diff files) one two planner plan count k m a b = a ∙ sym b
-question_end_once (Patch files) one two planner plan count k m a b = plan_end_once planner plan k m (k ≡ 0) (m ≡ 0) (λ x y. x ∙ sym y) a b
-question_end_once (PlanPatch files) one two planner plan count k m a b = plan_end_once planner plan k m (k ≡ 0) (m ≡ 0) (λ x y. x ∙ sym y) a b
+table_end_once : (planner user : Model) (one two : List Difference) (k m : ℕ) (One Two : Type 0) → places_of one ≡ places_of two → (One → Two → k ≡ m)
+    → AtTable planner user one k One → AtTable planner user two m Two → k ≡ m
+table_end_once planner user one two k m One Two same rest (inl a) (inl b) = a.0 ∙ sym b.0
+table_end_once planner user one two k m One Two same rest (inl a) (inr b) = absurd (b.0 (full_alike planner user one two same a.1))
+table_end_once planner user one two k m One Two same rest (inr a) (inl b) = absurd (a.0 (full_alike planner user two one (sym same) b.1))
+table_end_once planner user one two k m One Two same rest (inr a) (inr b) = rest a.1 b.1
+
+-- the number of differences alone decides
+search_same : (planner : Model) (plan : List GroundAction) (one two : List Difference) (m : ℕ) → places_of one ≡ places_of two → AtSearch planner plan two m → AtSearch planner plan one m
+search_same planner plan one two m same (inl under) = inl under
+search_same planner plan one two m same (inr (cheapest, inl many)) = inr (cheapest, inl (many.0, omega (arith, many.1, as_many)))
+  where
+    as_many : length one ≡ length two
+    as_many = sym (length-map one place_of) ∙ ap length same ∙ length-map two place_of
+search_same planner plan one two m same (inr (cheapest, inr few)) = inr (cheapest, inr (few.0, omega (arith, few.1, as_many)))
+  where
+    as_many : length one ≡ length two
+    as_many = sym (length-map one place_of) ∙ ap length same ∙ length-map two place_of
+
+question_end_once : (request : Request) (planner user : Model) (plan : List GroundAction) (one two : List Difference) (k m : ℕ) → places_of one ≡ places_of two
+    → AtQuestion request planner user plan one k → AtQuestion request planner user plan two m → k ≡ m
+question_end_once (Explain kind files) planner user plan one two k m same a b =
+    table_end_once planner user one two k m (AtPlan planner plan k (AtSearch planner plan one k)) (AtPlan planner plan m (AtSearch planner plan two m)) same
+    (plan_end_once planner plan k m (AtSearch planner plan one k) (AtSearch planner plan two m) (λ x y. search_end_once planner plan one k m x (search_same planner plan one two m same y)))
+    a b
+question_end_once (Diff files) planner user plan one two k m same a b = a ∙ sym b
+question_end_once (Patch files) planner user plan one two k m same a b = plan_end_once planner plan k m (k ≡ 0) (m ≡ 0) (λ x y. x ∙ sym y) a b
+question_end_once (PlanPatch files) planner user plan one two k m same a b = plan_end_once planner plan k m (k ≡ 0) (m ≡ 0) (λ x y. x ∙ sym y) a b
 
 never_past : (plan : List GroundAction) (count : ℕ) → count ≤ 256 → length plan ≤ 10000 → IsPast plan count → ⊥
 never_past plan count few short (inl past) = omega arith
@@ -79,33 +93,31 @@ never_large : (words : Vocabulary) → AreSmall words → IsLarge words → ⊥
 never_large words small (inl large) = omega (arith, small.parameters)
 never_large words small (inr large) = omega (arith, small.objects)
 
-module _ (request : Request) (one two : Vocabulary) (plan : List GroundAction) where
-  counts_end_once : (planner : Model) (count k m : ℕ)
-      → ((k ≡ 7) × IsPast plan count) ⊎ ((count ≤ 256) × (length plan ≤ 10000) × AtQuestion request one two planner plan count k)
-      → ((m ≡ 7) × IsPast plan count) ⊎ ((count ≤ 256) × (length plan ≤ 10000) × AtQuestion request one two planner plan count m) → k ≡ m
-  counts_end_once planner count k m (inl a) (inl b) = a.0 ∙ sym b.0
-  counts_end_once planner count k m (inl a) (inr b) = absurd (never_past plan count b.0 b.1 a.1)
-  counts_end_once planner count k m (inr a) (inl b) = absurd (never_past plan count a.0 a.1 b.1)
-  counts_end_once planner count k m (inr a) (inr b) = question_end_once request one two planner plan count k m a.2 b.2
+module _ (request : Request) (plan : List GroundAction) (planner user : Model) where
+  counts_end_once : (places : List Place) (k m : ℕ) → ((k ≡ 7) × IsPast plan (length places)) ⊎ AreFew request planner user plan places k
+      → ((m ≡ 7) × IsPast plan (length places)) ⊎ AreFew request planner user plan places m → k ≡ m
+  counts_end_once places k m (inl a) (inl b) = a.0 ∙ sym b.0
+  counts_end_once places k m (inl a) (inr b) = absurd (never_past plan (length places) b.few b.short a.1)
+  counts_end_once places k m (inr a) (inl b) = absurd (never_past plan (length places) a.few a.short b.1)
+  counts_end_once places k m (inr a) (inr b) = question_end_once request planner user plan a.differences b.differences k m (a.at_places ∙ sym b.at_places) a.rest b.rest
 
-  differing_end_once : (planner user : Model) (k m : ℕ) → AreDiffering request one two planner user plan k → AreDiffering request one two planner user plan m → k ≡ m
-  differing_end_once planner user k m a b =
+  differing_end_once : (k m : ℕ) → AreDiffering request planner user plan k → AreDiffering request planner user plan m → k ≡ m
+  differing_end_once k m a b =
       let same = same_differences planner.words (meaning planner) (meaning user) b.places a.places b.all a.all in
-      counts_end_once planner (length a.places) k m a.rest
-      (subst (λ ps. ((m ≡ 7) × IsPast plan (length ps)) ⊎ ((length ps ≤ 256) × (length plan ≤ 10000) × AtQuestion request one two planner plan (length ps) m)) same b.rest)
+      counts_end_once a.places k m a.rest (subst (λ ps. ((m ≡ 7) × IsPast plan (length ps)) ⊎ AreFew request planner user plan ps m) same b.rest)
 
 joined_end_once : (request : Request) (one two : Model) (plan : List GroundAction) (k m : ℕ) → AreJoined request one two plan k → AreJoined request one two plan m → k ≡ m
 joined_end_once request one two plan k m a b =
     let same = paired_once one two b.planner b.user a.planner a.user b.paired a.paired in
-    let F : Model × Model → Type 0 = λ t. ((m ≡ 7) × IsLarge t.0.words) ⊎ (AreSmall t.0.words × AreDiffering request one.words two.words t.0 t.1 plan m) in
+    let F : Model × Model → Type 0 = λ t. ((m ≡ 7) × IsLarge t.0.words) ⊎ (AreSmall t.0.words × AreDiffering request t.0 t.1 plan m) in
     both a.rest (subst F (λ i. (same.0 i, same.1 i)) b.rest)
   where
-    both : ((k ≡ 7) × IsLarge a.planner.words) ⊎ (AreSmall a.planner.words × AreDiffering request one.words two.words a.planner a.user plan k)
-        → ((m ≡ 7) × IsLarge a.planner.words) ⊎ (AreSmall a.planner.words × AreDiffering request one.words two.words a.planner a.user plan m) → k ≡ m
+    both : ((k ≡ 7) × IsLarge a.planner.words) ⊎ (AreSmall a.planner.words × AreDiffering request a.planner a.user plan k)
+        → ((m ≡ 7) × IsLarge a.planner.words) ⊎ (AreSmall a.planner.words × AreDiffering request a.planner a.user plan m) → k ≡ m
     both (inl x) (inl y) = x.0 ∙ sym y.0
     both (inl x) (inr y) = absurd (never_large a.planner.words y.0 x.1)
     both (inr x) (inl y) = absurd (never_large a.planner.words x.0 y.1)
-    both (inr x) (inr y) = differing_end_once request one.words two.words plan a.planner a.user k m x.1 y.1
+    both (inr x) (inr y) = differing_end_once request plan a.planner a.user k m x.1 y.1
 
 read_end_once : (request : Request) (contents : List (List ℕ)) (k m : ℕ) → AreRead request contents k → AreRead request contents m → k ≡ m
 read_end_once request contents k m a b =

@@ -20,7 +20,7 @@ use Rattle.mre_base.proofs.Loops.{All_item}
 use Rattle.feature_diff.specs.declared.difference.Difference.{Difference}
 use Rattle.feature_diff.specs.Differing.{place_of, planner_content, user_content, places_of, Says}
 use Rattle.explain_text.specs.Lines.{numbered_line, lines_of}
-use Rattle.plain_program.specs.Tasks.{even_task}
+use Rattle.request_answers.specs.Tasks.{even_task}
 
 option_same : (o : Option Difference) (F : Place → List ℕ) (G : Difference → List ℕ) → ((d : Difference) → o ≡ Some d → F (place_of d) ≡ G d)
     → option_map_or G o [] ≡ option_map_or F (option_map place_of o) []

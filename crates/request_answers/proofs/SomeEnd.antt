@@ -3,7 +3,7 @@ use Rattle.std.proofs.Common.{◌≡◌, ℕ, ◌+◌, ◌<◌, ◌≤◌, ◌^�
 use Rattle.std.specs.Prelude.{◌⊎◌, ◌≢◌, All, IsTrue, replicate, slice_get}
 use Rattle.std.specs.Ordering.{nat_cmp}
 use Rattle.std.specs.FinSet as set
-use Rattle.std.proofs.lemmas.Bool.{cases_Bool, cases_lt}
+use Rattle.std.proofs.lemmas.Bool.{cases_lt}
 use Rattle.std.proofs.lemmas.List.{length-map, length-replicate}
 use Rattle.std.proofs.lemmas.List.Elements.{All-nil, All-cons}
 use Rattle.mre_base.specs.Sets.{set_below}
@@ -18,7 +18,6 @@ use Rattle.pddl_models.specs.declared.domain.Domain.{Domain}
 use Rattle.pddl_read.specs.Texts.{IsDomainText, IsProblemText}
 use Rattle.pddl_read.proofs.DomainTexts.{either_domain}
 use Rattle.pddl_read.proofs.ProblemTexts.{either_model}
-use Rattle.model_kit.specs.declared.vocabulary.Vocabulary.{Vocabulary}
 use Rattle.model_kit.specs.declared.vocabulary.Signature.{Signature}
 use Rattle.model_kit.specs.declared.action.GroundAction.{GroundAction}
 use Rattle.model_kit.specs.declared.action.Plan.{Plan}
@@ -38,7 +37,9 @@ use Rattle.joint_models.proofs.FirstDisagreement.{agree_or_not}
 use Rattle.joint_models.proofs.SomePair.{some_pair}
 use Rattle.feature_diff.specs.declared.difference.Difference.{Difference}
 use Rattle.feature_diff.specs.Differing.{place_of, places_of, AreDifferencesOf}
-use Rattle.plain_program.specs.Tasks.{even_task}
+use Rattle.ground_core.specs.Grounds.{IsFull}
+use Rattle.ground_core.proofs.FullLemmas.{full_law}
+use Rattle.request_answers.specs.Tasks.{even_task}
 use Rattle.plan_uses.specs.Uses.{is_used_at}
 use Rattle.plan_uses.proofs.UsedLemmas.{are_used}
 use Rattle.explain_text.specs.Lines.{kind_name}
@@ -46,13 +47,12 @@ use Rattle.cube_kit.specs.Cubes.{all_to}
 use Rattle.mre_words.specs.declared.request.Request.{Request}
 use Rattle.mre_words.specs.declared.request.Request.TheVariants.{Explain, Diff, Patch, PlanPatch}
 use Rattle.request_answers.specs.declared.stop.AnswerStop.{AnswerStop}
-use Rattle.request_answers.specs.declared.stop.AnswerStop.TheVariants.{Misread, Disagree, TooManyParameters, TooManyObjects, TooManyDifferences, TooManySteps, NotValid, Unbuilt, NotCheapest, NoMemory}
+use Rattle.request_answers.specs.declared.stop.AnswerStop.TheVariants.{Misread, Disagree, TooManyParameters, TooManyObjects, TooManyDifferences, TooManySteps, TooManyActions, TooManyAtoms, NotValid, Unbuilt, NotCheapest, NoMemory}
 use Rattle.request_answers.specs.declared.stop.PlanFault.{PlanFault}
 use Rattle.request_answers.specs.declared.stop.PlanFault.TheVariants.{StepNeeds, StepHasNoCost, EndsWithout}
 use Rattle.request_answers.specs.Texts.{text_at, has_plan, AreModels, IsPlanIn, IsMisreadModel, planner_domain, planner_problem, user_domain, user_problem, of_model, of_plan}
 use Rattle.request_answers.specs.Counts.{most_of, most_parameters, AreSmall}
-use Rattle.request_answers.specs.Questions.{Pose, AreCounted, IsFault, is_served, AreServed, AreServedWords, IsUnserved, of_words, of_differences}
-use Rattle.request_answers.specs.Questions as unserved
+use Rattle.request_answers.specs.Questions.{Pose, AreCounted, IsFault, FitsTable}
 use Rattle.request_answers.specs.Outputs.{IsOfKind, IsAnswer, listing}
 use Rattle.request_answers.specs.Causes.{IsDue}
 use Rattle.request_answers.specs.Ends.{EndsAt}
@@ -77,6 +77,24 @@ even_posed planner user differences plan all = record {
     each : (n : ℕ) → All (λ w. (1 ≤ w) × (w ≤ 1000000)) (replicate n 1)
     each zero = All-nil (λ w. (1 ≤ w) × (w ≤ 1000000))
     each (suc n) = All-cons (λ w. (1 ≤ w) × (w ≤ 1000000)) 1 (replicate n 1) (omega arith, omega arith) (each n)
+
+-- among the valid plans below a cost one is cheapest, if there is one
+abbrev CheaperThan : Model → ℕ → Type 0
+CheaperThan planner k = (other : List GroundAction) × All (IsGroundAction planner.words) other × IsValid (meaning planner) other × (cost (meaning planner) other < k)
+
+abbrev CheapestThan : Model → ℕ → Type 0
+CheapestThan planner k = (other : List GroundAction) × All (IsGroundAction planner.words) other × IsCheapest planner.words (meaning planner) other × (cost (meaning planner) other < k)
+
+cheapest_below : (planner : Model) (n k : ℕ) → k ≤ n → CheaperThan planner k → CheapestThan planner k
+cheapest_below planner zero k few found = absurd (omega (arith, found.3))
+cheapest_below planner (suc n) k few found =
+    let m = meaning planner in
+    let price = cost m found.0 in
+    ⊎_elim
+    (λ (cheaper : CheaperThan planner price).
+    let best : CheapestThan planner price = cheapest_below planner n price (omega (arith, found.3)) cheaper in (best.0, best.1, best.2, omega (arith, best.3, found.3)))
+    (λ none. (found.0, found.1, record { valid = found.2; least = none }, found.3))
+    (cheaper_or_none planner.words m (finite_model planner) price)
 
 module _ (request : Request) (contents : List (List ℕ)) where
   abbrev pub Answered : Type 0
@@ -195,30 +213,16 @@ module _ (request : Request) (contents : List (List ℕ)) where
         fault_of (missing atom is) = (EndsWithout (atom_form planner.words atom), (atom, is, refl))
 
     module _ (differences : List Difference) (counted : AreCounted request contents planner user plan differences) where
-      faulty : IsTrue (has_plan request) → (fault : PlanFault) → IsFault planner.words (meaning planner) plan fault → Stopped
-      faulty asked fault is = (
+      faulty : IsTrue (has_plan request) → FitsTable request planner user differences → (fault : PlanFault) → IsFault planner.words (meaning planner) plan fault → Stopped
+      faulty asked table fault is = (
         NotValid fault,
         (λ same. cc),
-        record { planner = planner; user = user; plan = plan; differences = differences; counted = counted; planned = asked; is = is },
+        record { planner = planner; user = user; plan = plan; differences = differences; counted = counted; planned = asked; table = table; is = is },
       )
 
-      abbrev one : Vocabulary
-      one = counted.pose.planner_read.words
-
-      abbrev two : Vocabulary
-      two = counted.pose.user_read.words
-
-      served_or_not : AreServed one two (length differences) ⊎ ((file : ℕ) × IsUnserved one two (length differences) file)
-      served_or_not =
-          ⊎_elim
-          (λ first. ⊎_elim
-          (λ second.
-          let both : AreServedWords one two = record { planner_domain = first; user_domain = second } in
-          ⊎_elim (λ many. inr (4, of_differences both many refl)) (λ few. inl (record { words = both; few = few })) (cases_lt 16 (length differences)))
-          (λ not_second. inr (2, of_words (unserved.user_domain first not_second)))
-          (cases_Bool (is_served two)))
-          (λ not_first. inr (0, of_words (unserved.planner_domain not_first)))
-          (cases_Bool (is_served one))
+      -- more is reachable than a table may list, or it isn't
+      full_or_not : IsFull planner user differences ⊎ ¬ IsFull planner user differences
+      full_or_not = full_law planner user differences counted.limits.all pose.paired.user_in.words_are
 
       -- the first set of a kind
       first_of_kind : (kind : Kind) → IsCheapest planner.words (meaning planner) plan → (told : set.FinSet nat_cmp) × IsOfKind kind (even_task planner user differences plan) told
@@ -227,11 +231,12 @@ module _ (request : Request) (contents : List (List ℕ)) where
       first_of_kind Mme cheapest =
           (mme_law planner.words planner user (places_of differences) (replicate (length differences) 1) plan (even_posed planner user differences plan counted.limits.all) fits).exists cheapest
 
+      -- the plan is cheapest, or there is a cheapest plan that costs less
       cheapest_or_not : IsValid (meaning planner) plan
           → IsCheapest planner.words (meaning planner) plan
-          ⊎ ((other : List GroundAction) × All (IsGroundAction planner.words) other × IsValid (meaning planner) other × (cost (meaning planner) other < cost (meaning planner) plan))
+          ⊎ ((other : List GroundAction) × All (IsGroundAction planner.words) other × IsCheapest planner.words (meaning planner) other × (cost (meaning planner) other < cost (meaning planner) plan))
       cheapest_or_not valid =
-          ⊎_elim (λ cheaper. inr cheaper) (λ none. inl (record { valid = valid; least = none }))
+          ⊎_elim (λ cheaper. inr (cheapest_below planner (cost (meaning planner) plan) (cost (meaning planner) plan) (omega arith) cheaper)) (λ none. inl (record { valid = valid; least = none }))
           (cheaper_or_none planner.words (meaning planner) (finite_model planner) (cost (meaning planner) plan))
 
 -- ---- each request
@@ -253,7 +258,7 @@ module _ (contents : List (List ℕ)) (planner user : Model) (plan : List Ground
         listing request (even_task planner user differences plan) (all_to (length differences)),
         record { planner = planner; user = user; plan = plan; differences = differences; counted = counted; choice = (valid, refl); text_is = refl },
       ))
-      (λ wrong. inr (faulty request contents planner user plan pose fits differences counted refl wrong.0 wrong.1))
+      (λ wrong. inr (faulty request contents planner user plan pose fits differences counted refl tt wrong.0 wrong.1))
       (valid_or_fault request contents planner user plan pose fits)
   made (PlanPatch files) pose counted =
       let request : Request = PlanPatch files in
@@ -265,14 +270,21 @@ module _ (contents : List (List ℕ)) (planner user : Model) (plan : List Ground
         listing request (even_task planner user differences plan) used,
         record { planner = planner; user = user; plan = plan; differences = differences; counted = counted; choice = (valid, are_used plan places (length places) used refl refl); text_is = refl },
       ))
-      (λ wrong. inr (faulty request contents planner user plan pose fits differences counted refl wrong.0 wrong.1))
+      (λ wrong. inr (faulty request contents planner user plan pose fits differences counted refl tt wrong.0 wrong.1))
       (valid_or_fault request contents planner user plan pose fits)
   made (Explain kind files) pose counted =
-      let request : Request = Explain kind files in
       ⊎_elim
+      (λ full. inr (full_stop full))
+      (λ table. ⊎_elim
       (λ valid. ⊎_elim
-      (λ served. ⊎_elim
-      (λ cheapest. explained served cheapest (first_of_kind request contents planner user plan pose fits differences counted kind cheapest))
+      (λ cheapest. ⊎_elim
+      (λ many. inr (
+        Unbuilt,
+        (λ same. cc),
+        record { planner = planner; user = user; plan = plan; differences = differences; counted = counted; asked = tt; table = table; cheapest = cheapest; many = many },
+      ))
+      (λ few. explained table few cheapest (first_of_kind request contents planner user plan pose fits differences counted kind cheapest))
+      (cases_lt 16 (length differences)))
       (λ cheaper. inr (
         NotCheapest (cost (meaning planner) plan) (cost (meaning planner) cheaper.0) (map (action_form planner.words) cheaper.0),
         (λ same. cc),
@@ -283,23 +295,33 @@ module _ (contents : List (List ℕ)) (planner user : Model) (plan : List Ground
           differences = differences;
           counted = counted;
           asked = tt;
-          served = served;
-          undercut = record { valid = valid; costs_are = refl; list = cheaper.0; printed = refl; fits = cheaper.1; list_valid = cheaper.2; other_is = refl; less = cheaper.3 };
+          table = table;
+          undercut = record { valid = valid; costs_are = refl; list = cheaper.0; printed = refl; fits = cheaper.1; cheapest = cheaper.2; other_is = refl; less = cheaper.3 };
         },
       ))
       (cheapest_or_not request contents planner user plan pose fits differences counted valid))
-      (λ not_served. inr (
-        Unbuilt not_served.0,
-        (λ same. cc),
-        record { planner = planner; user = user; plan = plan; differences = differences; counted = counted; asked = tt; valid = valid; unserved = not_served.1 },
-      ))
-      (served_or_not request contents planner user plan pose fits differences counted))
-      (λ wrong. inr (faulty request contents planner user plan pose fits differences counted refl wrong.0 wrong.1))
-      (valid_or_fault request contents planner user plan pose fits)
+      (λ wrong. inr (faulty request contents planner user plan pose fits differences counted refl table wrong.0 wrong.1))
+      (valid_or_fault request contents planner user plan pose fits))
+      (full_or_not request contents planner user plan pose fits differences counted)
     where
-      explained : AreServed counted.pose.planner_read.words counted.pose.user_read.words (length differences) → IsCheapest planner.words (meaning planner) plan
+      request : Request
+      request = Explain kind files
+
+      full_stop : IsFull planner user differences → Stopped (Explain kind files) contents
+      full_stop (inl atoms) = (
+        TooManyAtoms,
+        (λ same. cc),
+        record { planner = planner; user = user; plan = plan; differences = differences; counted = counted; asked = tt; many = atoms },
+      )
+      full_stop (inr actions) = (
+        TooManyActions,
+        (λ same. cc),
+        record { planner = planner; user = user; plan = plan; differences = differences; counted = counted; asked = tt; many = actions },
+      )
+
+      explained : ¬ IsFull planner user differences → length differences ≤ 16 → IsCheapest planner.words (meaning planner) plan
           → ((told : set.FinSet nat_cmp) × IsOfKind kind (even_task planner user differences plan) told) → Answered (Explain kind files) contents ⊎ Stopped (Explain kind files) contents
-      explained served cheapest first = inl (
+      explained table few cheapest first = inl (
         first.0,
         explanation (kind_name kind) (even_task planner user differences plan) first.0,
         (
@@ -310,7 +332,8 @@ module _ (contents : List (List ℕ)) (planner user : Model) (plan : List Ground
             plan = plan;
             differences = differences;
             counted = counted;
-            served = served;
+            table = table;
+            few = few;
             cheapest = cheapest;
             task_is = refl;
             first = first.1;

@@ -8,12 +8,15 @@ use Rattle.model_kit.specs.Places.{Place, meaning}
 use Rattle.model_kit.specs.Differences.{AreDifferences}
 use Rattle.model_kit.specs.Pairs.{Agree, ArePaired}
 use Rattle.model_kit.specs.Runs.{IsValid, IsCheapest}
+use Rattle.feature_diff.specs.declared.difference.Difference.{Difference}
+use Rattle.feature_diff.specs.Differing.{places_of}
+use Rattle.ground_core.specs.Grounds.{IsFull}
 use Rattle.mre_words.specs.declared.request.Request.{Request}
 use Rattle.mre_words.specs.declared.request.Request.TheVariants.{Explain, Diff, Patch, PlanPatch}
 use Rattle.request_answers.specs.declared.stop.PlanFault.{PlanFault}
 use Rattle.request_answers.specs.Texts.{AreModels, IsPlanIn, IsMisread, has_plan}
 use Rattle.request_answers.specs.Counts.{most_parameters, AreSmall}
-use Rattle.request_answers.specs.Questions.{IsFault, IsUndercut, IsUnserved, AreServed}
+use Rattle.request_answers.specs.Questions.{IsFault, IsUndercut, AreMany}
 
 -- ---- the plan
 
@@ -23,23 +26,30 @@ AtPlan planner plan status Rest =
     ((status ≡ 10) × (fault : PlanFault) × IsFault planner.words (meaning planner) plan fault)
     ⊎ (IsValid (meaning planner) plan × Rest)
 
--- no explanation can be searched for; or one can, and the plan is undercut or cheapest
-abbrev pub AtSearch : Vocabulary → Vocabulary → Model → List GroundAction → ℕ → ℕ → Type 0
-AtSearch one two planner plan count status =
-    ((status ≡ 5) × (file : ℕ) × IsUnserved one two count file)
-    ⊎ (AreServed one two count
-    × (((status ≡ 11) × (costs other : ℕ) × (steps : List (List ℕ))
+-- the plan is undercut; or it is cheapest, and there are too many differences to try every set, or
+-- an explanation is found
+abbrev pub AtSearch : Model → List GroundAction → List Difference → ℕ → Type 0
+AtSearch planner plan differences status =
+    ((status ≡ 11) × (costs other : ℕ) × (steps : List (List ℕ))
     × IsUndercut planner.words (meaning planner) plan costs other steps)
-    ⊎ ((status ≡ 0) × IsCheapest planner.words (meaning planner) plan)))
+    ⊎ (IsCheapest planner.words (meaning planner) plan
+    × (((status ≡ 5) × AreMany differences) ⊎ ((status ≡ 0) × (length differences ≤ 16))))
 
--- the end of each request once all counts are within their limits
-abbrev pub AtQuestion : Request → Vocabulary → Vocabulary → Model → List GroundAction → ℕ → ℕ
-    → Type 0
-AtQuestion (Explain kind files) one two planner plan count status =
-    AtPlan planner plan status (AtSearch one two planner plan count status)
-AtQuestion (Diff files) one two planner plan count status = status ≡ 0
-AtQuestion (Patch files) one two planner plan count status = AtPlan planner plan status (status ≡ 0)
-AtQuestion (PlanPatch files) one two planner plan count status =
+-- more is reachable than a table may list; or it isn't, and the rest decides
+abbrev pub AtTable : Model → Model → List Difference → ℕ → Type 0 → Type 0
+AtTable planner user differences status Rest =
+    ((status ≡ 7) × IsFull planner user differences)
+    ⊎ ((¬ IsFull planner user differences) × Rest)
+
+-- the end of each request once the counts of its texts are within their limits
+abbrev pub AtQuestion : Request → Model → Model → List GroundAction → List Difference → ℕ → Type 0
+AtQuestion (Explain kind files) planner user plan differences status =
+    AtTable planner user differences status
+    (AtPlan planner plan status (AtSearch planner plan differences status))
+AtQuestion (Diff files) planner user plan differences status = status ≡ 0
+AtQuestion (Patch files) planner user plan differences status =
+    AtPlan planner plan status (status ≡ 0)
+AtQuestion (PlanPatch files) planner user plan differences status =
     AtPlan planner plan status (status ≡ 0)
 
 -- ---- the counts
@@ -52,14 +62,22 @@ IsLarge words = (8 < most_parameters words) ⊎ (1000 < length words.objects)
 abbrev pub IsPast : List GroundAction → ℕ → Type 0
 IsPast plan count = (256 < count) ⊎ (10000 < length plan)
 
+-- the differences are few and the plan is short, and the request decides
+pub record AreFew (request : Request) (planner user : Model) (plan : List GroundAction)
+    (places : List Place) (status : ℕ) : Type 0 where
+  pub differences : List Difference
+  pub at_places : places_of differences ≡ places
+  pub few : length places ≤ 256
+  pub short : length plan ≤ 10000
+  pub rest : AtQuestion request planner user plan differences status
+
 -- all differences of the two models: a count is past its limit, or the request decides
-pub record AreDiffering (request : Request) (one two : Vocabulary) (planner user : Model)
-    (plan : List GroundAction) (status : ℕ) : Type 0 where
+pub record AreDiffering (request : Request) (planner user : Model) (plan : List GroundAction)
+    (status : ℕ) : Type 0 where
   pub places : List Place
   pub all : AreDifferences planner.words (meaning planner) (meaning user) places
   pub rest : ((status ≡ 7) × IsPast plan (length places))
-      ⊎ ((length places ≤ 256) × (length plan ≤ 10000)
-      × AtQuestion request one two planner plan (length places) status)
+      ⊎ AreFew request planner user plan places status
 
 -- ---- the pair and the texts
 
@@ -70,8 +88,7 @@ pub record AreJoined (request : Request) (planner_read user_read : Model) (plan 
   pub user : Model
   pub paired : ArePaired planner_read user_read planner.words planner user
   pub rest : ((status ≡ 7) × IsLarge planner.words)
-      ⊎ (AreSmall planner.words
-      × AreDiffering request planner_read.words user_read.words planner user plan status)
+      ⊎ (AreSmall planner.words × AreDiffering request planner user plan status)
 
 -- texts of two models and of a plan: the models don't agree, or they are joined
 pub record AreRead (request : Request) (contents : List (List ℕ)) (status : ℕ) : Type 0 where

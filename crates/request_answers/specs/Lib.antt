@@ -7,4 +7,6 @@ pub mod Outputs
 pub mod Posing
 pub mod Questions
 pub mod Steps
+pub mod Tables
+pub mod Tasks
 pub mod Texts

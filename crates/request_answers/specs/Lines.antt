@@ -8,7 +8,8 @@ use Rattle.request_answers.specs.declared.stop.AnswerStop.TheVariants.{Misread, 
 use Rattle.request_answers.specs.declared.stop.AnswerStop.TheVariants.{TooManyParameters}
 use Rattle.request_answers.specs.declared.stop.AnswerStop.TheVariants.{TooManyObjects}
 use Rattle.request_answers.specs.declared.stop.AnswerStop.TheVariants.{TooManyDifferences}
-use Rattle.request_answers.specs.declared.stop.AnswerStop.TheVariants.{TooManySteps, NotValid}
+use Rattle.request_answers.specs.declared.stop.AnswerStop.TheVariants.{TooManySteps, TooManyActions}
+use Rattle.request_answers.specs.declared.stop.AnswerStop.TheVariants.{TooManyAtoms, NotValid}
 use Rattle.request_answers.specs.declared.stop.AnswerStop.TheVariants.{Unbuilt, NotCheapest}
 use Rattle.request_answers.specs.declared.stop.AnswerStop.TheVariants.{NoMemory}
 use Rattle.request_answers.specs.declared.stop.PlanFault.{PlanFault}
@@ -18,15 +19,21 @@ use Rattle.request_answers.specs.declared.stop.PlanFault.TheVariants.{EndsWithou
 -- the status with which the program ends
 abbrev pub status_of : AnswerStop → ℕ
 status_of (Misread file fault) = 5
-status_of (Unbuilt file) = 5
+status_of Unbuilt = 5
 status_of (Disagree fault) = 6
 status_of (TooManyParameters found) = 7
 status_of (TooManyObjects found) = 7
 status_of (TooManyDifferences found) = 7
 status_of (TooManySteps found) = 7
+status_of TooManyActions = 7
+status_of TooManyAtoms = 7
 status_of NoMemory = 9
 status_of (NotValid fault) = 10
 status_of (NotCheapest cost other steps) = 11
+
+-- the place of the plan among the files, counted from 0
+abbrev pub plan_place : ℕ
+plan_place = 4
 
 -- the name at a place, counted from 0
 abbrev pub name_at : List (List ℕ) → ℕ → List ℕ
@@ -79,7 +86,8 @@ fault_line (EndsWithout atom) = codes "mre: plan ends without " ++ line atom
 -- the first line of a stop, for files with these names
 abbrev pub line_of : List (List ℕ) → AnswerStop → List ℕ
 line_of names (Misread file fault) = text_line (name_at names file) fault
-line_of names (Unbuilt file) = codes "mre: " ++ (name_at names file ++ line (codes ":1:1: unbuilt"))
+line_of names Unbuilt =
+    codes "mre: " ++ (name_at names plan_place ++ line (codes ":1:1: unbuilt"))
 line_of names (Disagree fault) =
     codes "mre: models disagree: planner "
     ++ (fault.planner ++ (codes ", user " ++ line fault.user))
@@ -91,6 +99,8 @@ line_of names (TooManyDifferences found) =
     codes "mre: differences " ++ (decimal found ++ line (codes " limit 256"))
 line_of names (TooManySteps found) =
     codes "mre: plan steps " ++ (decimal found ++ line (codes " limit 10000"))
+line_of names TooManyActions = line (codes "mre: ground actions 50001 limit 50000")
+line_of names TooManyAtoms = line (codes "mre: atoms 4097 limit 4096")
 line_of names (NotValid fault) = fault_line fault
 line_of names (NotCheapest cost other steps) =
     codes "mre: plan costs " ++ (decimal cost
@@ -109,5 +119,5 @@ lines_of names stop = line_of names stop ∷ further_lines stop
 -- a file that the stop names is among this number of files
 abbrev pub IsOfFile : ℕ → AnswerStop → Type 0
 IsOfFile count (Misread file fault) = file < count
-IsOfFile count (Unbuilt file) = file < count
+IsOfFile count Unbuilt = plan_place < count
 IsOfFile count _ = Unit {0}

@@ -1,5 +1,5 @@
 -- The answer to a question with its models, its plan and its differences, or why there isn't one.
-use Rattle.std.specs.Prelude.{ℕ, ◌≡◌, List, length}
+use Rattle.std.specs.Prelude.{ℕ, ◌≡◌, ◌≤◌, List, length}
 use Rattle.std.specs.Ordering.{nat_cmp}
 use Rattle.std.specs.FinSet as set
 use Rattle.mre_base.specs.declared.kind.Kind.{Kind}
@@ -8,7 +8,7 @@ use Rattle.model_kit.specs.Runs.{IsCheapest}
 use Rattle.model_kit.specs.Explanations.{Task}
 use Rattle.model_kit.specs.Sentences.{explanation}
 use Rattle.feature_diff.specs.declared.difference.Difference.{Difference}
-use Rattle.plain_program.specs.Tasks.{even_task}
+use Rattle.ground_core.specs.Grounds.{IsFull}
 use Rattle.explain_text.specs.Lines.{kind_name}
 use Rattle.mre_words.specs.declared.request.Request.{Request}
 use Rattle.mre_words.specs.declared.request.Request.TheVariants.{Explain, Diff, Patch, PlanPatch}
@@ -17,7 +17,8 @@ use Rattle.request_answers.specs.declared.stop.AnswerStop.{AnswerStop}
 use Rattle.request_answers.specs.declared.stop.AnswerStop.TheVariants.{NoMemory}
 use Rattle.request_answers.specs.Counts.{AreWithinLimits}
 use Rattle.request_answers.specs.Outputs.{IsOfKind, IsChoice, listing}
-use Rattle.request_answers.specs.Steps.{IsOfCounts, IsOfPlan, IsServedBy, IsOfExplaining}
+use Rattle.request_answers.specs.Steps.{IsOfCounts, IsOfPlan, IsOfExplaining}
+use Rattle.request_answers.specs.Tasks.{even_task}
 
 -- the task of a question, in which each difference weighs 1
 abbrev pub task_in : Question → List Difference → Task
@@ -28,7 +29,8 @@ task_in question differences =
 -- its explanation
 pub record IsExplanation (kind : Kind) (question : Question) (differences : List Difference)
     (told : set.FinSet nat_cmp) (text : List ℕ) : Type 0 where
-  pub served : IsServedBy question.unserved (length differences)
+  pub table : ¬ IsFull question.pair.planner question.pair.user differences
+  pub few : length differences ≤ 16
   pub cheapest : IsCheapest question.pair.planner.words (meaning question.pair.planner)
       question.plan.steps
   pub first : IsOfKind kind (task_in question differences) told
@@ -47,14 +49,14 @@ IsMade (Explain kind files) question differences told text =
 IsMade request question differences told text = IsList request question differences told text
 
 -- why a request has no answer to it
-abbrev pub IsOfMaking : Request → Question → ℕ → AnswerStop → Type 0
-IsOfMaking (Explain kind files) question count stop =
-    IsOfExplaining question.pair.planner question.plan.steps question.unserved count stop
-IsOfMaking (Diff files) question count NoMemory = Unit {0}
-IsOfMaking (Diff files) question count _ = ⊥
-IsOfMaking (Patch files) question count stop =
+abbrev pub IsOfMaking : Request → Question → List Difference → AnswerStop → Type 0
+IsOfMaking (Explain kind files) question differences stop =
+    IsOfExplaining question.pair.planner question.pair.user question.plan.steps differences stop
+IsOfMaking (Diff files) question differences NoMemory = Unit {0}
+IsOfMaking (Diff files) question differences _ = ⊥
+IsOfMaking (Patch files) question differences stop =
     IsOfPlan question.pair.planner.words (meaning question.pair.planner) question.plan.steps stop
-IsOfMaking (PlanPatch files) question count stop =
+IsOfMaking (PlanPatch files) question differences stop =
     IsOfPlan question.pair.planner.words (meaning question.pair.planner) question.plan.steps stop
 
 -- the answer to a question, of which no count is past its limit
@@ -71,5 +73,5 @@ pub data IsOfAnswering (request : Request) (question : Question) (stop : AnswerS
       → IsOfAnswering request question stop
   made : (differences : List Difference)
       → AreWithinLimits question.pair.planner question.pair.user question.plan.steps differences
-      → IsOfMaking request question (length differences) stop
+      → IsOfMaking request question differences stop
       → IsOfAnswering request question stop

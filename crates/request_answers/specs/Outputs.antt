@@ -1,5 +1,5 @@
 -- The answers: what a request prints, an explanation or a list of differences.
-use Rattle.std.specs.Prelude.{ℕ, ◌≡◌, List, ◌++◌, flat_map, length, codes, decimal}
+use Rattle.std.specs.Prelude.{ℕ, ◌≡◌, ◌≤◌, List, ◌++◌, flat_map, length, codes, decimal}
 use Rattle.std.specs.Ordering.{nat_cmp}
 use Rattle.std.specs.FinSet as set
 use Rattle.mre_base.specs.Before.{numbers, count_of}
@@ -13,13 +13,14 @@ use Rattle.model_kit.specs.Explanations.{Task, IsMCE, IsMME}
 use Rattle.model_kit.specs.Sentences.{line, difference_line, explanation}
 use Rattle.feature_diff.specs.declared.difference.Difference.{Difference}
 use Rattle.feature_diff.specs.Differing.{places_of}
-use Rattle.plain_program.specs.Tasks.{even_task}
+use Rattle.ground_core.specs.Grounds.{IsFull}
 use Rattle.plan_uses.specs.Uses.{AreUsed}
 use Rattle.explain_text.specs.Lines.{kind_name}
 use Rattle.cube_kit.specs.Cubes.{all_to}
 use Rattle.mre_words.specs.declared.request.Request.{Request}
 use Rattle.mre_words.specs.declared.request.Request.TheVariants.{Explain, Diff, Patch, PlanPatch}
-use Rattle.request_answers.specs.Questions.{AreCounted, AreServed}
+use Rattle.request_answers.specs.Questions.{AreCounted}
+use Rattle.request_answers.specs.Tasks.{even_task}
 
 -- ---- explanations
 
@@ -35,8 +36,9 @@ AsksMce (Diff files) = Unit {0}
 AsksMce (Patch files) = Unit {0}
 AsksMce (PlanPatch files) = Unit {0}
 
--- the contents ask a question for which an explanation can be searched, the plan is cheapest in the
--- planner's model, and the set is the first of its kind in the task where each difference weighs 1
+-- the contents ask a question, no more is reachable in the two models than a table may list, there
+-- are few enough differences to try every set, the plan is cheapest in the planner's model, and the
+-- set is the first of its kind in the task where each difference weighs 1
 pub record IsExplained (request : Request) (contents : List (List ℕ)) (kind : Kind) (task : Task)
     (told : set.FinSet nat_cmp) : Type 0 where
   pub planner : Model
@@ -44,8 +46,8 @@ pub record IsExplained (request : Request) (contents : List (List ℕ)) (kind : 
   pub plan : List GroundAction
   pub differences : List Difference
   pub counted : AreCounted request contents planner user plan differences
-  pub served : AreServed counted.pose.planner_read.words counted.pose.user_read.words
-      (length differences)
+  pub table : ¬ IsFull planner user differences
+  pub few : length differences ≤ 16
   pub cheapest : IsCheapest planner.words (meaning planner) plan
   pub task_is : task ≡ even_task planner user differences plan
   pub first : IsOfKind kind task told

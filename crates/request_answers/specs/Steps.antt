@@ -1,18 +1,29 @@
 -- Why a step on the way from the contents to an answer stops. Most steps can run out of memory.
-use Rattle.std.specs.Prelude.{ℕ, ◌≡◌, ◌⊎◌, ◌≤◌, ◌<◌, List, Option, None, Some}
+use Rattle.std.specs.Prelude.{ℕ, ◌≡◌, ◌<◌, List, length}
 use Rattle.pddl_text.specs.declared.fault.TextFault.{TextFault}
 use Rattle.model_kit.specs.declared.vocabulary.Vocabulary.{Vocabulary}
 use Rattle.model_kit.specs.declared.model.Model.{Model}
 use Rattle.model_kit.specs.declared.action.GroundAction.{GroundAction}
 use Rattle.model_kit.specs.Places.{Meaning, meaning}
-use Rattle.model_kit.specs.Runs.{IsValid}
+use Rattle.model_kit.specs.Runs.{IsCheapest}
+use Rattle.feature_diff.specs.declared.difference.Difference.{Difference}
+use Rattle.cube_kit.specs.Cubes.{all_to}
+use Rattle.task_kit.specs.Tasks.{cost_of}
+use Rattle.case_kit.specs.Members.{member}
+use Rattle.table_explanations.specs.Explanations as numbers
+use Rattle.ground_core.specs.declared.table.Ground.{Ground}
+use Rattle.ground_core.specs.declared.stop.GroundStop.{GroundStop}
+use Rattle.ground_core.specs.declared.stop.GroundStop.TheVariants as grounds
+use Rattle.ground_core.specs.Grounds.{IsFull}
+use Rattle.ground_core.specs.Stops.{ManyAtoms, ManyActions}
 use Rattle.mre_words.specs.declared.request.Request.{Request}
 use Rattle.request_answers.specs.declared.stop.AnswerStop.{AnswerStop}
 use Rattle.request_answers.specs.declared.stop.AnswerStop.TheVariants.{Misread, Disagree}
 use Rattle.request_answers.specs.declared.stop.AnswerStop.TheVariants.{TooManyParameters}
 use Rattle.request_answers.specs.declared.stop.AnswerStop.TheVariants.{TooManyObjects}
 use Rattle.request_answers.specs.declared.stop.AnswerStop.TheVariants.{TooManyDifferences}
-use Rattle.request_answers.specs.declared.stop.AnswerStop.TheVariants.{TooManySteps, NotValid}
+use Rattle.request_answers.specs.declared.stop.AnswerStop.TheVariants.{TooManySteps, TooManyActions}
+use Rattle.request_answers.specs.declared.stop.AnswerStop.TheVariants.{TooManyAtoms, NotValid}
 use Rattle.request_answers.specs.declared.stop.AnswerStop.TheVariants.{Unbuilt, NotCheapest}
 use Rattle.request_answers.specs.declared.stop.AnswerStop.TheVariants.{NoMemory}
 use Rattle.request_answers.specs.Texts.{IsMisread, IsMisreadModel, IsMisreadPlan}
@@ -20,6 +31,7 @@ use Rattle.request_answers.specs.Counts.{AreTooManyParameters, AreTooManyObjects
 use Rattle.request_answers.specs.Counts.{AreTooManyDifferences, AreTooManySteps}
 use Rattle.request_answers.specs.Questions.{IsFault, IsUndercut}
 use Rattle.request_answers.specs.Causes.{HaveDisagreement}
+use Rattle.request_answers.specs.Tables.{forms_of}
 use Rattle.joint_models.specs.Disagreements.{IsFirstDisagreement}
 use Rattle.model_kit.specs.Pairs.{Agree}
 
@@ -77,35 +89,51 @@ IsOfPlan words model plan (NotValid fault) = IsFault words model plan fault
 IsOfPlan words model plan NoMemory = Unit {0}
 IsOfPlan words model plan _ = ⊥
 
--- the plan isn't cheapest
-abbrev pub IsOfCost : Vocabulary → Meaning → List GroundAction → AnswerStop → Type 0
-IsOfCost words model plan (NotCheapest cost other steps) =
-    IsUndercut words model plan cost other steps
-IsOfCost words model plan NoMemory = Unit {0}
-IsOfCost words model plan _ = ⊥
+-- a stop of grounding
+abbrev pub stop_of : GroundStop → AnswerStop
+stop_of (grounds.TooManyActions limit) = TooManyActions
+stop_of (grounds.TooManyAtoms limit) = TooManyAtoms
+stop_of grounds.NoMemory = NoMemory
 
--- no domain is named as unserved, and the differences are few enough to try every set
-abbrev pub IsServedBy : Option ℕ → ℕ → Type 0
-IsServedBy unserved count = (unserved ≡ None) × (count ≤ 16)
+-- more is reachable than a table may list
+abbrev pub IsOfGround : Model → Model → List Difference → AnswerStop → Type 0
+IsOfGround planner user differences TooManyActions = ManyActions planner user differences
+IsOfGround planner user differences TooManyAtoms = ManyAtoms planner user differences
+IsOfGround planner user differences NoMemory = Unit {0}
+IsOfGround planner user differences _ = ⊥
 
--- the file that is named: the unserved domain, or the plan if there are too many differences
-abbrev pub IsUnservedBy : Option ℕ → ℕ → ℕ → Type 0
-IsUnservedBy unserved count file =
-    (unserved ≡ Some file) ⊎ ((unserved ≡ None) × (16 < count) × (file ≡ 4))
+-- in the task after all differences a cheapest list costs less than this, and these are its printed
+-- forms
+pub record IsUndercutBy (ground : Ground) (cost other : ℕ) (steps : List (List ℕ)) : Type 0 where
+  pub list : List ℕ
+  pub cheapest : numbers.IsCheapest (member ground.table (all_to ground.table.d)) list
+  pub printed : steps ≡ forms_of ground.names.actions.items list
+  pub other_is : other ≡ cost_of (member ground.table (all_to ground.table.d)) list
+  pub less : other < cost
 
--- no explanation can be searched for
-abbrev pub IsOfService : Option ℕ → ℕ → AnswerStop → Type 0
-IsOfService unserved count (Unbuilt file) = IsUnservedBy unserved count file
-IsOfService unserved count _ = ⊥
+-- the plan isn't cheapest after all differences
+abbrev pub IsOfList : Ground → ℕ → AnswerStop → Type 0
+IsOfList ground cost (NotCheapest costs other steps) =
+    (costs ≡ cost) × IsUndercutBy ground cost other steps
+IsOfList ground cost NoMemory = Unit {0}
+IsOfList ground cost _ = ⊥
 
--- why a plan isn't explained: it isn't valid, no explanation can be searched for, or it isn't
--- cheapest
-abbrev pub IsOfExplaining : Model → List GroundAction → Option ℕ → ℕ → AnswerStop → Type 0
-IsOfExplaining planner plan unserved count (NotValid fault) =
+-- why a plan isn't explained, where no more is reachable than a table may list: it isn't valid, it
+-- isn't cheapest, or there are too many differences to try every set
+abbrev pub IsOfSearch : Model → List GroundAction → ℕ → AnswerStop → Type 0
+IsOfSearch planner plan count (NotValid fault) =
     IsFault planner.words (meaning planner) plan fault
-IsOfExplaining planner plan unserved count (Unbuilt file) =
-    IsValid (meaning planner) plan × IsUnservedBy unserved count file
-IsOfExplaining planner plan unserved count (NotCheapest cost other steps) =
-    IsServedBy unserved count × IsUndercut planner.words (meaning planner) plan cost other steps
-IsOfExplaining planner plan unserved count NoMemory = Unit {0}
-IsOfExplaining planner plan unserved count _ = ⊥
+IsOfSearch planner plan count (NotCheapest cost other steps) =
+    IsUndercut planner.words (meaning planner) plan cost other steps
+IsOfSearch planner plan count Unbuilt =
+    IsCheapest planner.words (meaning planner) plan × (16 < count)
+IsOfSearch planner plan count NoMemory = Unit {0}
+IsOfSearch planner plan count _ = ⊥
+
+-- why a plan isn't explained
+pub data IsOfExplaining (planner user : Model) (plan : List GroundAction)
+    (differences : List Difference) (stop : AnswerStop) : Type 0 where
+  full : IsOfGround planner user differences stop
+      → IsOfExplaining planner user plan differences stop
+  searched : ¬ IsFull planner user differences → IsOfSearch planner plan (length differences) stop
+      → IsOfExplaining planner user plan differences stop

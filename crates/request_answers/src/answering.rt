@@ -1,6 +1,6 @@
 //! The answer to a request about the contents of its files.
 
-ghost use Rattle.std.specs.Prelude.{◌≡◌, length, map, All, IfOk, IfErr, IfNone, OnOk};
+ghost use Rattle.std.specs.Prelude.{◌≡◌, length, map, All, IfOk, IfErr, OnOk};
 ghost use Rattle.std.specs.List.{concat};
 ghost use Rattle.model_kit.specs.Vocabulary.{IsGroundAction};
 ghost use Rattle.model_kit.specs.Places.{meaning};
@@ -12,7 +12,6 @@ ghost use Rattle.request_answers.specs.Lines.{IsOfFile, IsLine};
 ghost use Rattle.request_answers.specs.Making.{task_in, IsMade, IsOfMaking, IsMadeOf};
 ghost use Rattle.request_answers.specs.Making.{IsOfAnswering};
 ghost use Rattle.request_answers.specs.Outputs.{IsAnswer, AsksMce, listing};
-ghost use Rattle.request_answers.specs.Questions.{AreReady};
 ghost use Rattle.request_answers.specs.Steps.{IsOfPlan};
 ghost use Rattle.request_answers.specs.Texts.{AreShort};
 
@@ -66,8 +65,6 @@ fn answer_question(
 ) -> Result<Made, AnswerStop>
     requires mce { AsksMce request.now }
     requires fits { All (IsGroundAction question.now.pair.planner.words) question.now.plan.steps }
-    requires ready { IfNone question.now.unserved
-        (AreReady question.now.pair.planner.words question.now.plan.steps) }
     ensures ok { IfOk result (λ made. IsMadeOf request.now question.now made.told
         (concat made.lines)) }
     ensures whole { IfOk result (λ made. All IsLine made.lines) }
@@ -88,12 +85,10 @@ fn answer_counted(
     requires limits { AreWithinLimits question.now.pair.planner question.now.pair.user
         question.now.plan.steps differences.now }
     requires fits { All (IsGroundAction question.now.pair.planner.words) question.now.plan.steps }
-    requires ready { IfNone question.now.unserved
-        (AreReady question.now.pair.planner.words question.now.plan.steps) }
     ensures ok { IfOk result (λ made. IsMade request.now question.now differences.now made.told
         (concat made.lines)) }
     ensures whole { IfOk result (λ made. All IsLine made.lines) }
-    ensures err { IfErr result (IsOfMaking request.now question.now (length differences.now)) }
+    ensures err { IfErr result (IsOfMaking request.now question.now differences.now) }
 {
     match request {
         Request::Explain { .. } => explain(alloc, question, differences),

@@ -5,8 +5,8 @@ ghost use Rattle.request_answers.specs.Lines.{IsLine};
 ghost use Rattle.std.specs.List.{concat};
 ghost use Rattle.std.specs.String.{string_bytes};
 ghost use Rattle.feature_diff.specs.Differing.{AreDifferencesOf};
-ghost use Rattle.plain_program.specs.Tasks.{even_task};
 ghost use Rattle.request_answers.specs.Outputs.{listing, list_head};
+ghost use Rattle.request_answers.specs.Tasks.{even_task};
 
 use crate::Made;
 use crate::question::Question;

@@ -8,7 +8,6 @@ ghost use Rattle.request_answers.specs.Posing.{AreTexts, IsQuestion, IsJoined};
 ghost use Rattle.request_answers.specs.Steps.{IsOfQuestion, IsOfPlanText, IsOfPairing};
 
 use crate::AnswerStop;
-use crate::serving::unserved_words;
 use crate::texts::{Models, read_models, read_steps};
 use feature_diff::{Pair, PairStop};
 use model_kit::Plan;
@@ -23,9 +22,6 @@ pub struct Question {
     pub pair: Pair,
     /// The plan, in the same numbers; a request without a plan has the empty plan.
     pub plan: Plan,
-    /// The place of the first domain whose words no search serves yet, counted from 0 among the
-    /// contents.
-    pub unserved: Option<usize>,
 }
 
 /// The two models and the plan of the texts.
@@ -99,13 +95,8 @@ fn join_texts(alloc: Global, texts: Texts) -> Result<Question, AnswerStop>
 {
     let Texts { models, plan } = texts;
     let Models { planner, user } = models;
-    let unserved = unserved_words(&planner.words, &user.words);
     match Pair::pair(alloc, planner, user) {
-        Ok(pair) => Ok(Question {
-            pair,
-            plan,
-            unserved,
-        }),
+        Ok(pair) => Ok(Question { pair, plan }),
         Err(PairStop::Differs(fault)) => Err(AnswerStop::Disagree(fault)),
         Err(PairStop::NoMemory) => Err(AnswerStop::NoMemory),
     }

@@ -3,6 +3,7 @@
 ghost use Rattle.std.specs.Prelude.{◌≡◌};
 ghost use Rattle.request_answers.specs.Lines.{status_of};
 
+use ground_core::GroundStop;
 use joint_models::PairFault;
 use mre_base::{List, NoMemory, Text};
 use pddl_text::TextFault;
@@ -35,19 +36,22 @@ pub enum AnswerStop {
     TooManySteps {
         found: usize,
     },
+    /// More than 50000 ground actions are reachable in the two models. If there are too many atoms
+    /// too, either of the two stops may be reported.
+    TooManyActions,
+    /// More than 4096 ground atoms are reachable in the two models.
+    TooManyAtoms,
     /// The plan isn't valid in the planner's model.
     NotValid(PlanFault),
-    /// No explanation can be searched for yet, because of this file.
-    Unbuilt {
-        file: usize,
-    },
-    /// In the planner's model the list of these printed steps is valid and costs `other`, which is
-    /// less than the plan's cost.
+    /// In the planner's model the list of these printed steps is a cheapest plan and costs `other`,
+    /// which is less than the plan's cost.
     NotCheapest {
         cost: u64,
         other: u64,
         steps: List<Text>,
     },
+    /// There are more than 16 differences, too many to try every set of them.
+    Unbuilt,
     /// Memory ran out.
     NoMemory,
 }
@@ -74,18 +78,35 @@ impl From<NoMemory> for AnswerStop {
     }
 }
 
+impl From<GroundStop> for AnswerStop {
+    ghost use Rattle.std.specs.Prelude.{◌≡◌};
+    ghost use Rattle.request_answers.specs.Steps.{stop_of};
+
+    ghost from_gives = { λ given stop. stop ≡ stop_of given };
+
+    fn from(given: GroundStop) -> AnswerStop {
+        match given {
+            GroundStop::TooManyActions { limit: _ } => AnswerStop::TooManyActions,
+            GroundStop::TooManyAtoms { limit: _ } => AnswerStop::TooManyAtoms,
+            GroundStop::NoMemory => AnswerStop::NoMemory,
+        }
+    }
+}
+
 impl AnswerStop {
     /// The status with which the program ends.
     pub fn status(&self) -> u8
         ensures { result ≡ status_of self.now }
     {
         match self {
-            AnswerStop::Misread { file: _, fault: _ } | AnswerStop::Unbuilt { file: _ } => 5,
+            AnswerStop::Misread { file: _, fault: _ } | AnswerStop::Unbuilt => 5,
             AnswerStop::Disagree(_) => 6,
             AnswerStop::TooManyParameters { found: _ }
             | AnswerStop::TooManyObjects { found: _ }
             | AnswerStop::TooManyDifferences { found: _ }
-            | AnswerStop::TooManySteps { found: _ } => 7,
+            | AnswerStop::TooManySteps { found: _ }
+            | AnswerStop::TooManyActions
+            | AnswerStop::TooManyAtoms => 7,
             AnswerStop::NoMemory => 9,
             AnswerStop::NotValid(_) => 10,
             AnswerStop::NotCheapest { .. } => 11,

@@ -5,6 +5,7 @@ ghost use Rattle.std.specs.String.{string_bytes};
 ghost use Rattle.request_answers.specs.Lines.{name_at, line, line_of, lines_of, fault_line};
 ghost use Rattle.request_answers.specs.Lines.{text_line, rule_name, IsOfFile};
 
+use crate::texts::PLAN_FILE;
 use crate::{AnswerStop, PlanFault};
 use mre_base::{List, NoMemory, Text};
 use pddl_text::{TextFault, TextRule};
@@ -37,8 +38,8 @@ impl AnswerStop {
     {
         match self {
             AnswerStop::Misread { file, fault } => text_fault(alloc, name_of(files, *file), fault),
-            AnswerStop::Unbuilt { file } => {
-                let name = name_of(files, *file);
+            AnswerStop::Unbuilt => {
+                let name = name_of(files, PLAN_FILE);
                 Ok(format!(in alloc; "mre: {name}:1:1: unbuilt\n")?)
             }
             AnswerStop::Disagree(fault) => {
@@ -57,6 +58,13 @@ impl AnswerStop {
             }
             AnswerStop::TooManySteps { found } => {
                 Ok(format!(in alloc; "mre: plan steps {found} limit 10000\n")?)
+            }
+            AnswerStop::TooManyActions => Ok(String::from_str(
+                alloc,
+                "mre: ground actions 50001 limit 50000\n",
+            )?),
+            AnswerStop::TooManyAtoms => {
+                Ok(String::from_str(alloc, "mre: atoms 4097 limit 4096\n")?)
             }
             AnswerStop::NotValid(fault) => fault.line(alloc),
             AnswerStop::NotCheapest {

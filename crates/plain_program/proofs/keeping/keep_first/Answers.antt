@@ -1,22 +1,23 @@
-use Rattle.model_kit.specs.Explanations.{IsComplete}
-use Rattle.model_kit.proofs.ActionLemmas.{some_holds, none_holds}
-use Rattle.plain_program.specs.Numbered.{actions_of}
-use Rattle.plain_program.specs.Kept.{OfTask, IsPriced}
-use Rattle.plain_program.proofs.KeptLemmas.{narrowed, keeps_later, keeps_incomplete, keeps_new}
+use Rattle.std.specs.Prelude.{◌≡◌}
+use Rattle.mre_base.proofs.Options.{of_some}
+use Rattle.task_kit.specs.Tasks.{cost_of}
+use Rattle.case_kit.specs.Members.{member}
+use Rattle.table_explanations.specs.Explanations.{IsCheapest}
+use Rattle.plain_program.proofs.BestLemmas.{narrowed, keeps_later, keeps_new}
 use Rattle.plain_program.proofs.keeping.keep_first.Goals as goal
 
 pub returns-then-not-is_before : goal.returns-then-not-is_before
-returns-then-not-is_before c = λ differences all.
-    keeps_later c.args.pair.now.planner c.args.pair.now.user differences (actions_of c.args.list.now) c.args.best c.args.told.now
-    (narrowed c.args.pair.now.planner c.args.pair.now.user differences (actions_of c.args.list.now) all c.ones.result c.ones.ensures c.args.told.now c.args.best.told c.requires.within c.requires.best_within _ c.if-not-is_before.ensures.narrow)
-
-pub returns-in-None : goal.returns-in-None
-returns-in-None c = λ differences all.
-    keeps_incomplete c.args.pair.now.planner c.args.pair.now.user differences (actions_of c.args.list.now) c.args.best c.args.told.now
-    (none_holds (OfTask c.args.pair.now.planner c.args.pair.now.user (actions_of c.args.list.now) (λ task. ¬ IsComplete task c.args.told.now)) _ c.in-None.is c.in_ok-cost_if_complete.ensures.other differences all)
+returns-then-not-is_before c =
+    let table = c.args.table.now in
+    let plan = c.args.plan.now in
+    keeps_later table plan c.args.best c.args.told.now
+    (narrowed table plan c.ones.result c.ones.ensures c.args.told.now c.args.best.told c.requires.within c.requires.best_within table.sound.few_differences _ c.if-not-is_before.ensures.narrow)
 
 pub returns-in-Some : goal.returns-in-Some
-returns-in-Some c = λ differences all.
-    keeps_new c.args.pair.now.planner c.args.pair.now.user differences (actions_of c.args.list.now) c.args.best _ c.args.told.now c.copy.ensures
-    (narrowed c.args.pair.now.planner c.args.pair.now.user differences (actions_of c.args.list.now) all c.ones.result c.ones.ensures c.args.told.now c.args.best.told c.requires.within c.requires.best_within _ c.if-not-is_before.ensures.narrow)
-    (some_holds (λ price. OfTask c.args.pair.now.planner c.args.pair.now.user (actions_of c.args.list.now) (λ task. IsPriced task c.args.told.now price)) _ _ c.in-Some.is c.in_ok-cost_if_complete.ensures.complete differences all)
+returns-in-Some c =
+    let table = c.args.table.now in
+    let plan = c.args.plan.now in
+    let told = c.args.told.now in
+    keeps_new table plan c.args.best _ told c.copy.ensures
+    (narrowed table plan c.ones.result c.ones.ensures told c.args.best.told c.requires.within c.requires.best_within table.sound.few_differences _ c.if-not-is_before.ensures.narrow)
+    (of_some _ c.in-Some.cost (λ price. IsCheapest (member table told) plan × (price ≡ cost_of (member table told) plan)) c.in-Some.is c.in_ok-cost_if_complete.ensures.complete)
