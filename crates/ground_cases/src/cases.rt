@@ -1,6 +1,7 @@
 //! The texts of a case, cut out of the input.
 
 use crate::grounding::grounded;
+use crate::patching::patched_lines;
 use crate::telling::{Detail, tell};
 use mre_base::NoMemory;
 use std::alloc::Global;
@@ -30,12 +31,19 @@ impl Cases {
             "table" => Detail::Whole,
             "names" => Detail::Names,
             "counts" => Detail::Counts,
-            _ => {
-                self.keep(alloc, line)?;
-                return Ok(String::new(alloc));
-            }
+            _ => return self.take_text(alloc, line),
         };
         tell(alloc, &grounded(alloc, self), part)
+    }
+
+    // Takes a line that asks for no table: for the user's model, or one with a text.
+    fn take_text(&mut self, alloc: Global, line: &str) -> Result<String, NoMemory> {
+        if let Some(number) = line.strip_prefix("told ") {
+            let count = number.parse::<u32>().unwrap_or(0);
+            return patched_lines(alloc, self, count);
+        }
+        self.keep(alloc, line)?;
+        Ok(String::new(alloc))
     }
 
     fn keep(&mut self, alloc: Global, line: &str) -> Result<(), NoMemory> {

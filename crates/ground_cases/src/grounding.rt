@@ -19,7 +19,8 @@ fn model_of(alloc: Global, domain: &str, problem: &str) -> Option<Model>
     read_problem(alloc, problem.as_bytes(), &domain).ok()
 }
 
-fn pair_of(alloc: Global, texts: &Cases) -> Option<Pair> {
+/// The pair of the texts, where they are one.
+pub fn pair_of(alloc: Global, texts: &Cases) -> Option<Pair> {
     let planner = model_of(alloc, texts.domain.as_str(), texts.problem.as_str())?;
     let user = model_of(
         alloc,

@@ -2,11 +2,13 @@
 //!
 //! The lines `domain TEXT` and `problem TEXT` give the planner's model, `user-domain TEXT` and
 //! `user-problem TEXT` the user's. A line `counts` prints how many atoms and ground actions the
-//! pair's table lists, a line `names` their printed forms too, and a line `table` all of it.
+//! pair's table lists, a line `names` their printed forms too, and a line `table` all of it. A line
+//! `told N` prints the user's model after the first N differences are told.
 #![tactic(auto)]
 
 mod cases;
 mod grounding;
+mod patching;
 mod telling;
 
 use cases::Cases;
